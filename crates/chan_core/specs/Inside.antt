@@ -1,5 +1,5 @@
 -- The contents of a channel, by its fields.
-use Rattle.std.specs.Prelude.{◌≤◌, vec_capacity}
+use Rattle.std.specs.Prelude.{◌≤◌}
 use Rattle.chan_core.specs.declared.channel_memory.ChannelMemory.TheInside.{Inside}
 use Rattle.chan_core.specs.Contents.{Contents, AreContents}
 
@@ -21,4 +21,4 @@ contents_of m = record {
 -- they are contents, and there is room for all reads
 pub record IsInside (m : Inside) : Type 0 where
   pub are : AreContents (contents_of m)
-  pub room_for_reads : m.most_reads ≤ vec_capacity m.reads
+  pub room_for_reads : m.most_reads ≤ m.reads.most

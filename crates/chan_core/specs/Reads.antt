@@ -27,10 +27,18 @@ IsIndexOfSerial serial reads (Some i) = (read : OpenRead) × (slice_get reads i 
 abbrev pub HasSeq : ℕ → List OpenRead → Type 0
 HasSeq seq reads = (i : ℕ) × (read : OpenRead) × (slice_get reads i ≡ Some read) × (read.seq ≡ seq)
 
+-- their serials rise
+abbrev pub SerialsOfReadsRise : List OpenRead → Type 0
+SerialsOfReadsRise reads = (i j : ℕ) (r s : OpenRead) → i < j → slice_get reads i ≡ Some r → slice_get reads j ≡ Some s → r.serial < s.serial
+
+-- the seqs of their requests rise
+abbrev pub SeqsOfReadsRise : List OpenRead → Type 0
+SeqsOfReadsRise reads = (i j : ℕ) (r s : OpenRead) → i < j → slice_get reads i ≡ Some r → slice_get reads j ≡ Some s → r.seq < s.seq
+
 -- serials rise, below the next one, and so do the seqs of the requests
 pub record ReadsRise (serial seq : ℕ) (reads : List OpenRead) : Type 0 where
-  pub serials : (i j : ℕ) (r s : OpenRead) → i < j → slice_get reads i ≡ Some r → slice_get reads j ≡ Some s → r.serial < s.serial
-  pub seqs : (i j : ℕ) (r s : OpenRead) → i < j → slice_get reads i ≡ Some r → slice_get reads j ≡ Some s → r.seq < s.seq
+  pub serials : SerialsOfReadsRise reads
+  pub seqs : SeqsOfReadsRise reads
   pub below : (i : ℕ) (r : OpenRead) → slice_get reads i ≡ Some r → (r.serial < serial) × (r.seq < seq)
 
 -- the read with an answer

@@ -19,6 +19,7 @@ use ddr4_timing::place::Place;
 use ddr4_timing::timing::Checked;
 use frfcfs::next::next_command;
 use frfcfs::queue::Queue;
+use gap_list::GapList;
 use interleave_map::cells::{cell_of, cells, line_count};
 use interleave_map::line_map::LineMap;
 use kept_trace::KeptTrace;
@@ -83,7 +84,7 @@ impl Channel {
                 array,
                 queue: Wpq::with_depth(alloc, depth)?,
                 waiting: Queue::with_room(alloc, depth + reads)?,
-                reads: Vec::with_capacity(alloc, reads)?,
+                reads: GapList::with_room(alloc, reads)?,
                 most_reads: reads,
                 serial: 0,
                 hold: None,

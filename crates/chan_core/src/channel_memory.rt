@@ -1,6 +1,6 @@
 // What a channel holds: its array, its pending writes, its open reads, and the list of its commands, which takes no bytes; and
 // what a command does to it.
-ghost use Rattle.std.specs.Prelude.{◌≡◌, ◌≢◌, ◌++◌, ◌∷◌, [], IfSome, Some, drop, length, slice_get, take, vec_capacity};
+ghost use Rattle.std.specs.Prelude.{◌≡◌, ◌≢◌, ◌++◌, ◌∷◌, [], IfSome, Some, drop, length, slice_get, take};
 ghost use Rattle.std.specs.List.{filter_map};
 ghost use Rattle.line_memory.specs.declared.line.TheConstants.{LINE_BYTES};
 ghost use Rattle.wpq_core.specs.Writes.{TakesWrite};
@@ -22,6 +22,7 @@ use ddr4_timing::place::Place;
 use ddr4_timing::timing::Checked;
 use frfcfs::pending::{Kind, Pending};
 use frfcfs::queue::Queue;
+use gap_list::GapList;
 use kept_trace::KeptTrace;
 use line_memory::Line;
 use std::alloc::Global;
@@ -35,7 +36,7 @@ pub struct ChannelMemory {
     pub(crate) array: Vec<Line>,
     pub(crate) queue: Wpq,
     pub(crate) waiting: Queue,
-    pub(crate) reads: Vec<OpenRead>,
+    pub(crate) reads: GapList<OpenRead>,
     pub(crate) most_reads: usize,
     // that of the next read that waits
     pub(crate) serial: u128,
@@ -150,12 +151,12 @@ pub(crate) fn oldest_write(requests: &[Pending]) -> Option<(u64, Place)>
 }
 
 // Loses all reads. Where none is open nothing is done.
-fn lose_reads(reads: &mut Vec<OpenRead>, waiting: &mut Queue)
+fn lose_reads(reads: &mut GapList<OpenRead>, waiting: &mut Queue)
     ensures none { reads.new.items ≡ [] }
-    ensures capacity { vec_capacity reads.new ≡ vec_capacity reads.old }
+    ensures most { reads.new.most ≡ reads.old.most }
     ensures waiting { LeavesWrites reads.old.items waiting.old waiting.new }
 {
-    if reads.is_empty() {
+    if reads.as_slice().is_empty() {
         return;
     }
     reads.clear();

@@ -14,7 +14,7 @@ impl ChannelMemory {
         ensures { IfOk result (λ copy. copy ≡ self.now) }
     {
         let array = copy_with_room(alloc, &self.array, self.array.len())?;
-        let reads = copy_with_room(alloc, &self.reads, self.most_reads)?;
+        let reads = self.reads.copy(alloc)?;
         let queue = self.queue.copy(alloc)?;
         let waiting = self.waiting.copy(alloc)?;
         let issued = self.issued.copy(alloc)?;

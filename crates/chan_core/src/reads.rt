@@ -1,7 +1,9 @@
 // Reads that were accepted and not collected yet.
-ghost use Rattle.std.specs.Prelude.{◌≡◌, vec_capacity};
-ghost use Rattle.chan_core.specs.Reads.{AnswersSeq, HasSeq, IsIndexOfSerial};
+ghost use Rattle.std.specs.Prelude.{◌≡◌, ◌<◌, Some, length, slice_get};
+ghost use Rattle.chan_core.specs.declared.reads.OpenRead.{OpenRead};
+ghost use Rattle.chan_core.specs.Reads.{AnswersSeq, HasSeq, IsIndexOfSerial, SeqsOfReadsRise, SerialsOfReadsRise};
 
+use gap_list::GapList;
 use line_memory::Line;
 
 /// A read that was accepted and not collected yet.
@@ -27,20 +29,38 @@ pub struct ReadsFull;
 
 /// Where the read of a serial stands.
 pub(crate) fn index_of_serial(reads: &[OpenRead], serial: u128) -> Option<usize>
+    requires { SerialsOfReadsRise reads.now }
     ensures { IsIndexOfSerial serial reads.now result }
 {
-    reads.iter().position(|read| read.serial == serial)
+    let index = reads.partition_point(|read| read.serial < serial);
+    let read = reads.get(index)?;
+    if read.serial == serial {
+        Some(index)
+    } else {
+        None
+    }
+}
+
+// Where the read of a seq stands, which is there.
+fn index_of_seq(reads: &[OpenRead], seq: u64) -> usize
+    requires rise { SeqsOfReadsRise reads.now }
+    requires waits { HasSeq seq reads.now }
+    ensures within { result < length reads.now }
+    ensures is { (read : OpenRead) → slice_get reads.now result ≡ Some read → read.seq ≡ seq }
+{
+    reads.partition_point(|read| read.seq < seq)
 }
 
 /// Gives the read that a request is for its bytes: its serial.
-pub(crate) fn answer(reads: &mut Vec<OpenRead>, seq: u64, bytes: Line) -> u128
-    requires { HasSeq seq reads.old.items }
+pub(crate) fn answer(reads: &mut GapList<OpenRead>, seq: u64, bytes: Line) -> u128
+    requires rise { SeqsOfReadsRise reads.old.items }
+    requires waits { HasSeq seq reads.old.items }
     ensures answers { AnswersSeq seq bytes result reads.old.items reads.new.items }
-    ensures capacity { vec_capacity reads.new ≡ vec_capacity reads.old }
+    ensures most { reads.new.most ≡ reads.old.most }
 {
-    let Some(index) = reads.iter().position(|read| read.seq == seq) else {
-        unreachable!()
-    };
-    reads[index].bytes = Some(bytes);
-    reads[index].serial
+    let index = index_of_seq(reads.as_slice(), seq);
+    let read = reads.as_slice()[index];
+    let bytes = Some(bytes);
+    reads.set(index, OpenRead { bytes, ..read });
+    read.serial
 }

@@ -99,7 +99,7 @@ impl Channel {
             None => {
                 let (serial, seq) = (self.memory.serial, self.memory.waiting.next());
                 self.memory.waiting.push(place, cell, Kind::Read, at, false);
-                self.memory.reads.push_reserved(OpenRead {
+                self.memory.reads.push(OpenRead {
                     serial,
                     seq,
                     line,
@@ -117,8 +117,8 @@ impl Channel {
     }
 
     /// What there is for a ticket: the data of its read once it was answered, and the ticket is gone then; `Pending` exactly
-    /// where the read waits; `Unknown` exactly for what is no ticket of this channel or was collected. It costs the number of
-    /// open reads.
+    /// where the read waits; `Unknown` exactly for what is no ticket of this channel or was collected. It finds it by halves, and
+    /// moves the open reads before it or those behind it, whichever are fewer.
     pub fn collect(&mut self, ticket: Ticket) -> Collected
         ensures answers { AnswersCollect self.old ticket result self.new.tickets }
         ensures rest { self.new ≡ record self.old { tickets = self.new.tickets } }
@@ -126,13 +126,13 @@ impl Channel {
         if ticket.channel != self.memory.channel {
             return Collected::Unknown;
         }
-        let Some(index) = index_of_serial(&self.memory.reads, ticket.serial) else {
+        let Some(index) = index_of_serial(self.memory.reads.as_slice(), ticket.serial) else {
             return Collected::Unknown;
         };
-        let read = self.memory.reads[index];
+        let read = self.memory.reads.as_slice()[index];
         match read.bytes {
             Some(bytes) => {
-                self.memory.reads.remove(index);
+                self.memory.reads.take(index);
                 Collected::Data {
                     line: read.line,
                     bytes,

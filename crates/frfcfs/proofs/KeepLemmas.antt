@@ -39,6 +39,6 @@ next_numbered n (x ∷ xs) zero seq d within is = let e : seq ≡ n = omega (ari
 next_numbered n (x ∷ xs) (suc i) seq d within is = ap (λ (rest : List Pending). record x { seq = n } ∷ rest) (next_numbered (n + 1) xs i seq d (omega (arith, within)) (omega (arith, is)))
 
 -- a loop that numbers each request
-pub number_more : (xs ys : List Pending) (i : ℕ) (d : Pending) → i < length xs → ys ≡ numbered_from 0 (take i xs) ++ drop i xs
-    → set ys i (record (get_or ys i d) { seq = i }) ≡ numbered_from 0 (take (i + 1) xs) ++ drop (i + 1) xs
-number_more xs ys i d within is = rw (is, add-one) (next_numbered 0 xs i i d within (omega arith))
+pub number_more : (xs ys : List Pending) (i : ℕ) (p : Pending) → i < length xs → ys ≡ numbered_from 0 (take i xs) ++ drop i xs → p ≡ get_or ys i p
+    → set ys i (record p { seq = i }) ≡ numbered_from 0 (take (i + 1) xs) ++ drop (i + 1) xs
+number_more xs ys i p within is read = ap (λ (q : Pending). set ys i (record q { seq = i })) read ∙ rw (is, add-one) (next_numbered 0 xs i i p within (omega arith))

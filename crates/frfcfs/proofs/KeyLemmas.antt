@@ -1,18 +1,18 @@
 -- Keys of requests, in a queue that grows, shrinks and is held, and what they say of a request.
-use Rattle.std.proofs.Common.{◌≡◌, ◌≢◌, ℕ, ◌+◌, ◌<◌, ◌≤◌, ◌↔◌, List, [], ◌∷◌, ◌++◌, Bool, IsTrue, true, false, Option, Some, inl, inr, refl, sym, subst, ap, ◌∙◌, arith, All, map, drop, length, length-append, remove, get_or, set, length-set, get_or-set_same, get_or-set_other, slice_get}
+use Rattle.std.proofs.Common.{◌≡◌, ◌≢◌, ℕ, ◌+◌, ◌<◌, ◌≤◌, ◌↔◌, List, [], ◌∷◌, ◌++◌, Bool, IsTrue, true, false, Option, None, Some, inl, inr, refl, sym, subst, ap, ◌∙◌, arith, All, map, length, length-append, remove, get_or, set, length-set, get_or-set_same, get_or-set_other, slice_get}
 use Rattle.std.proofs.Math.Seq.{map-set_same}
 use Rattle.std.proofs.lemmas.Bool.{cases_eq, cases_lt}
-use Rattle.std.proofs.lemmas.List.{get_or-drop, get_or-map, get_or_append_left, get_or_default, get_or_push, length-drop, length-map, map-append}
+use Rattle.std.proofs.lemmas.List.{get_or-map, get_or_append_left, get_or_default, get_or_push, length-map, map-append}
 use Rattle.std.proofs.lemmas.List.Edits.{length-remove}
 use Rattle.std.specs.List.{drop-map, take-map}
-use Rattle.std.proofs.lemmas.Option.{get_or_from_slice_get, slice_get_within}
+use Rattle.std.proofs.lemmas.Option.{get_or_from_slice_get, slice_get-get_or, slice_get_within}
 use Rattle.ddr4_timing.proofs.Addresses.{same_address}
 use Rattle.frfcfs.specs.Scan.{flag_of}
-use Rattle.frfcfs.proofs.Common.{AreHeldBy, AreKeys, AreKeysIn, BankAddress, Geometry, HasBank, IsKeyOf, IsSmall, Key, Kind, LiesIn, Pending, bank_at, bank_index, bank_number, firsts_of, held_by, numbered_from, place_of}
+use Rattle.frfcfs.proofs.Common.{AreHeldBy, AreKeys, AreKeysIn, BankAddress, Geometry, HasBank, IsKeyOf, IsOldestOf, IsSmall, Key, Kind, LiesIn, Pending, bank_at, bank_index, bank_number, firsts_of, held_by, numbered_from, place_of}
 use Rattle.frfcfs.proofs.HitLemmas.{IsLook}
 use Rattle.frfcfs.proofs.KeepLemmas.{length-numbered, numbered_at}
 use Rattle.frfcfs.proofs.Lists.{something_at}
-use Rattle.frfcfs.proofs.QueueLemmas.{get_or-stood, stood}
+use Rattle.frfcfs.proofs.QueueLemmas.{IsOldestAt, get_or-stood, line_at, lines, stood}
 
 -- what a key says of its request, which lies in the geometry
 
@@ -63,6 +63,40 @@ key_look g pending keys i free k are within says p at =
       λ h. says.1 (sym first ∙ mark.1.1 h.0.oldest, held ∙ h.0.free),
     )
 
+-- a key names its request's line
+line_of_key : (pending : List Pending) (keys : List Key) (i : ℕ) (k : Key) → AreKeys pending keys → slice_get keys i ≡ Some k → get_or (lines pending) i 0 ≡ k.line
+line_of_key pending keys i k are at =
+    let (p, there) = something_at pending i (omega (arith, slice_get_within keys i k at, are.size)) in
+    line_at pending i p there ∙ (sym (key_there pending keys i p k are there).line ∙ ap (λ (x : Key). x.line) (get_or_from_slice_get keys i k k at))
+
+-- The first key that names a line stands where its oldest request does.
+pub oldest_key : (line : ℕ) (pending : List Pending) (keys : List Key) (place : Option ℕ) → AreKeys pending keys → IsOldestOf line keys place → IsOldestAt line (lines pending) place
+oldest_key line pending keys None are none = record {
+  here = λ m is. absurd cc;
+  upto = λ i within same.
+      let (k, at) = something_at keys i (omega (arith, within, length-map pending (λ (q : Pending). q.line), are.size)) in
+      absurd (none i k (slice_get_within keys i k at) (ap (λ (x : Key). x.line) (get_or_from_slice_get keys i k k at) ∙ (sym (line_of_key pending keys i k are at) ∙ same)));
+}
+oldest_key line pending keys (Some n) are (key, at, own, before) = record {
+  here = λ m is. let e : m ≡ n = cc in ap (λ (i : ℕ). get_or (lines pending) i 0) e ∙ (line_of_key pending keys n key are at ∙ own);
+  upto = λ i within same. elim (cases_lt i n) [
+    | inl l ↦
+        let (k, there) = something_at keys i (omega (arith, within, length-map pending (λ (q : Pending). q.line), are.size)) in
+        absurd (before i k l there (sym (line_of_key pending keys i k are there) ∙ same))
+    | inr g ↦ (n, refl, g)
+  ];
+}
+
+-- A line that no key names is that of no request.
+pub new_line : (line : ℕ) (pending : List Pending) (keys : List Key) → AreKeys pending keys → (All (λ key. key.line ≢ line) keys ↔ All (λ other. other ≢ line) (lines pending))
+new_line line pending keys are = (
+  λ none i d within same.
+      let (k, at) = something_at keys i (omega (arith, within, length-map pending (λ (q : Pending). q.line), are.size)) in
+      none i k (slice_get_within keys i k at) (ap (λ (x : Key). x.line) (get_or_from_slice_get keys i k k at) ∙ (sym (line_of_key pending keys i k are at) ∙ (get_or_default (lines pending) i 0 d within ∙ same))),
+  λ none i d within same.
+      none i 0 (omega (arith, within, length-map pending (λ (q : Pending). q.line), are.size)) (line_of_key pending keys i (get_or keys i d) are (slice_get-get_or keys i d within) ∙ same),
+)
+
 -- one more at the end
 pub keys_push : (pending : List Pending) (keys : List Key) (p : Pending) (k : Key) → AreKeys pending keys → IsKeyOf p k → AreKeys (pending ++ p ∷ []) (keys ++ k ∷ [])
 keys_push pending keys p k are is = record {
@@ -88,12 +122,14 @@ pub firsts_remove : (keys : List Key) (i : ℕ) → firsts_of (remove keys i) �
 firsts_remove keys i = simp (map-append, take-map, drop-map)
 
 -- one marked as the first of its line
-pub keys_mark : (pending : List Pending) (keys : List Key) (i : ℕ) (k : Key) → i < length keys → AreKeys pending keys → AreKeys pending (set keys i (record (get_or keys i k) { first = true }))
-keys_mark pending keys i k there are = record {
-  size = length-set keys i (record (get_or keys i k) { first = true }) ∙ are.size;
+pub keys_mark : (pending : List Pending) (keys : List Key) (i : ℕ) (key : Key) → i < length keys → key ≡ get_or keys i key → AreKeys pending keys → AreKeys pending (set keys i (record key { first = true }))
+keys_mark pending keys i key there read are = record {
+  size = length-set keys i (record key { first = true }) ∙ are.size;
   each = λ j d e within. elim (cases_eq j i) [
-    | inl same ↦ rw (same, get_or-set_same keys i (record (get_or keys i k) { first = true }) e there) (let was = are.each i d k (omega (arith, there, are.size)) in record { row = was.row; bank = was.bank; kind = was.kind; held = was.held })
-    | inr other ↦ rw (get_or-set_other keys i j (record (get_or keys i k) { first = true }) e other) (are.each j d e within)
+    | inl same ↦
+        let was : IsKeyOf (get_or pending i d) key = subst (λ (k : Key). IsKeyOf (get_or pending i d) k) (sym read) (are.each i d key (omega (arith, there, are.size))) in
+        rw (same, get_or-set_same keys i (record key { first = true }) e there) (record { row = was.row; line = was.line; bank = was.bank; kind = was.kind; held = was.held })
+    | inr other ↦ rw (get_or-set_other keys i j (record key { first = true }) e other) (are.each j d e within)
   ];
 }
 
@@ -104,7 +140,7 @@ keys_numbered pending keys are =
       size = are.size ∙ sym size;
       each = λ i d e within.
           let l : i < length pending = omega (arith, within, size) in
-          rw (numbered_at 0 pending i d l) (let was = are.each i d e l in record { row = was.row; bank = was.bank; kind = was.kind; held = was.held });
+          rw (numbered_at 0 pending i d l) (let was = are.each i d e l in record { row = was.row; line = was.line; bank = was.bank; kind = was.kind; held = was.held });
     }
 
 -- each held or not
@@ -115,19 +151,17 @@ pub record AreHeldUpto (pending : List Pending) (old new : List Key) (end : ℕ)
   pub below : (i : ℕ) (p : Pending) (k : Key) → i < end → i < length old → get_or new i k ≡ record (get_or old i k) { held = (get_or pending i p).held }
   pub above : (i : ℕ) (k : Key) → end ≤ i → get_or new i k ≡ get_or old i k
 
-pub keys_held : (hold : Option ℕ) (start : ℕ) (pending : List Pending) (old new : List Key) → length old ≡ length pending → AreHeldBy (map (held_by hold) pending) old new → AreKeys (drop start pending) (drop start old) →
-    AreKeys (drop start (map (held_by hold) pending)) (drop start new)
-keys_held hold start pending old new size held are =
-    let n = length-map pending (held_by hold) in
-    let all = map (held_by hold) pending in record {
-      size = omega (arith, length-drop start new, length-drop start all, held.size, size, n);
+pub keys_held : (hold : Option ℕ) (pending : List Pending) (old new : List Key) → AreHeldBy (map (held_by hold) pending) old new → AreKeys pending old → AreKeys (map (held_by hold) pending) new
+keys_held hold pending old new held are =
+    let n = length-map pending (held_by hold) in record {
+      size = omega (arith, held.size, are.size, n);
       each = λ i d e within.
-          let there : start + i < length pending = omega (arith, within, length-drop start all, n) in
-          let less : i < length (drop start pending) = omega (arith, there, length-drop start pending) in
-          let request = get_or-map (held_by hold) pending (start + i) d d there in
-          let was : IsKeyOf (get_or pending (start + i) d) (get_or old (start + i) e) = rw (← get_or-drop start pending i d, ← get_or-drop start old i e) (are.each i d e less) in
-          rw (get_or-drop start all i d, get_or-drop start new i e, held.each (start + i) d e (omega (arith, there, size))) (record {
+          let less : i < length pending = omega (arith, within, n) in
+          let request = get_or-map (held_by hold) pending i d d less in
+          let was = are.each i d e less in
+          rw (held.each i d e (omega (arith, less, are.size))) (record {
             row = was.row ∙ ap (λ (q : Pending). q.place.row) (sym request);
+            line = was.line ∙ ap (λ (q : Pending). q.line) (sym request);
             bank = was.bank ∙ ap (λ (q : Pending). bank_number q.place) (sym request);
             kind = was.kind ∙ ap (λ (q : Pending). q.kind) (sym request);
             held = refl;
@@ -135,16 +169,17 @@ keys_held hold start pending old new size held are =
     }
 
 -- a loop that holds each
-pub held_more : (pending : List Pending) (old keys : List Key) (i : ℕ) (k : Key) (p : Pending) → i < length old → length keys ≡ length old → length old ≡ length pending → AreHeldUpto pending old keys i →
-    AreHeldUpto pending old (set keys i (record (get_or keys i k) { held = (get_or pending i p).held })) (i + 1)
-held_more pending old keys i k p within size both before = record {
-  firsts = map-set_same (λ (x : Key). x.first) keys i (record (get_or keys i k) { held = (get_or pending i p).held }) k refl ∙ before.firsts;
+pub held_more : (pending : List Pending) (old keys : List Key) (i : ℕ) (key : Key) (held : Bool) (p : Pending) → i < length old → length keys ≡ length old → length old ≡ length pending → key ≡ get_or keys i key → held ≡ (get_or pending i p).held
+    → AreHeldUpto pending old keys i → AreHeldUpto pending old (set keys i (record key { held = held })) (i + 1)
+held_more pending old keys i key held p within size both read is before = record {
+  firsts = map-set_same (λ (x : Key). x.first) keys i (record key { held = held }) key (ap (λ (x : Key). x.first) read) ∙ before.firsts;
   below = λ j q e less there. elim (cases_eq j i) [
     | inl same ↦
-        let mark : (get_or pending i p).held ≡ (get_or pending i q).held = ap (λ (x : Pending). x.held) (get_or_default pending i p q (omega (arith, within, both))) in
-        let key : get_or keys i k ≡ get_or old i e = before.above i k (omega arith) ∙ get_or_default old i k e within in
-        rw (same, get_or-set_same keys i (record (get_or keys i k) { held = (get_or pending i p).held }) e (omega (arith, within, size)), key, mark) refl
-    | inr other ↦ rw (get_or-set_other keys i j (record (get_or keys i k) { held = (get_or pending i p).held }) e other) (before.below j q e (grind (arith, less, other)) there)
+        let mark : held ≡ (get_or pending i q).held = is ∙ ap (λ (x : Pending). x.held) (get_or_default pending i p q (omega (arith, within, both))) in
+        let was : key ≡ get_or old i e = read ∙ (before.above i key (omega arith) ∙ get_or_default old i key e within) in
+        rw (same, get_or-set_same keys i (record key { held = held }) e (omega (arith, within, size)))
+        (ap (λ (k : Key). record k { held = held }) was ∙ ap (λ (b : Bool). record (get_or old i e) { held = b }) mark)
+    | inr other ↦ rw (get_or-set_other keys i j (record key { held = held }) e other) (before.below j q e (grind (arith, less, other)) there)
   ];
-  above = λ j e from. get_or-set_other keys i j (record (get_or keys i k) { held = (get_or pending i p).held }) e (λ same. omega (arith, same, from)) ∙ before.above j e (omega (arith, from));
+  above = λ j e from. get_or-set_other keys i j (record key { held = held }) e (λ same. omega (arith, same, from)) ∙ before.above j e (omega (arith, from));
 }

@@ -14,5 +14,4 @@ pub mod KeyLemmas
 pub mod KeepLemmas
 pub mod refreshes
 pub mod WorkLemmas
-pub mod ShiftedLists
-pub mod QueueRoom
+pub mod KeptRequests

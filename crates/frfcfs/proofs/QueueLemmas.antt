@@ -1,7 +1,6 @@
 -- Queues that grow, shrink and are held, and what their marks say.
 use Rattle.std.proofs.Common.{if◌then◌else◌, ltb, ◌≡◌, ◌≢◌, ℕ, ◌+◌, ◌-◌, ◌<◌, ◌≤◌, ◌↔◌, ◌⊎◌, List, [], ◌∷◌, ◌++◌, Bool, IsTrue, true, false, Option, Some, None, inl, inr, refl, sym, subst, ap, ◌∙◌, arith, map, take, drop, length, length-append, get_or, set, get_or-set_same, get_or-set_other, All, remove, slice_get}
 use Rattle.std.proofs.Math.ListN.{get_or-append}
-use Rattle.std.proofs.Math.Seq.{take-append_seam}
 use Rattle.std.proofs.lemmas.Bool.{cases_eq, cases_lt, cases_order}
 use Rattle.std.specs.List.{drop-map, take-map}
 use Rattle.std.proofs.lemmas.Simd.{map-map}
@@ -10,7 +9,7 @@ use Rattle.std.proofs.lemmas.List.Edits.{get_or-remove_above, get_or-remove_belo
 use Rattle.std.proofs.lemmas.List.Elements.{All-map, All-push}
 use Rattle.std.proofs.lemmas.List.Quantifiers.{all_pairs_push, all_pairs_remove}
 use Rattle.std.proofs.lemmas.Option.{slice_get_within, get_or_from_slice_get, slice_get-get_or}
-use Rattle.frfcfs.proofs.Common.{AreFirsts, AreInOrder, AreMarks, Geometry, IsFirst, IsFirstAt, IsOldestOf, IsWaiting, LiesIn, MarksOldest, Pending, Waiting, held_by, is_held, marked_at}
+use Rattle.frfcfs.proofs.Common.{AreFirsts, AreInOrder, AreMarks, Geometry, IsFirst, IsFirstAt, IsWaiting, LiesIn, Pending, Waiting, held_by, is_held, marked_at}
 use Rattle.frfcfs.proofs.Lists.{All-at}
 
 -- the lines of requests
@@ -74,22 +73,9 @@ was_first xs i k within other first j l same =
     ]
 
 -- what the place of a line's oldest request says of the lines
-record IsOldestAt (line : ℕ) (xs : List ℕ) (place : Option ℕ) : Type 0 where
-  here : (m : ℕ) → place ≡ Some m → get_or xs m 0 ≡ line
-  upto : (k : ℕ) → k < length xs → get_or xs k 0 ≡ line → (m : ℕ) × (place ≡ Some m) × (m ≤ k)
-
-oldest_at : (line : ℕ) (xs : List ℕ) (place : Option ℕ) → IsOldestOf line xs place → IsOldestAt line xs place
-oldest_at line xs None none = record {
-  here = λ m is. absurd cc;
-  upto = λ k within same. absurd (none k 0 within same);
-}
-oldest_at line xs (Some n) (at, before) = record {
-  here = λ m same. let e : m ≡ n = cc in ap (λ k. get_or xs k 0) e ∙ get_or_from_slice_get xs n line 0 at;
-  upto = λ k within same. elim (cases_lt k n) [
-    | inl l ↦ absurd (before k l (slice_get-get_or xs k 0 within ∙ ap Some same))
-    | inr g ↦ (n, refl, g)
-  ];
-}
+pub record IsOldestAt (line : ℕ) (xs : List ℕ) (place : Option ℕ) : Type 0 where
+  pub here : (m : ℕ) → place ≡ Some m → get_or xs m 0 ≡ line
+  pub upto : (k : ℕ) → k < length xs → get_or xs k 0 ≡ line → (m : ℕ) × (place ≡ Some m) × (m ≤ k)
 
 -- the first ones now are those that were, and the oldest of the line that went
 first_now : (xs : List ℕ) (i k : ℕ) (place : Option ℕ) → i < length xs → k < length (remove xs i) → IsOldestAt (get_or xs i 0) (remove xs i) place → (IsFirstAt (remove xs i) k ↔ (IsFirstAt xs (stood i k) ⊎ (place ≡ Some k)))
@@ -129,11 +115,11 @@ firsts_take xs firsts i place marks within oldest =
 pub lines_remove : (pending : List Pending) (i : ℕ) → lines (remove pending i) ≡ remove (lines pending) i
 lines_remove pending i = simp (map-append, take-map, drop-map)
 
-pub request_take : (pending : List Pending) (firsts new : List Bool) (i line : ℕ) → AreFirsts (lines pending) firsts → i < length pending → get_or (lines pending) i 0 ≡ line →
-    MarksOldest line (lines (remove pending i)) (remove firsts i) new → AreFirsts (lines (remove pending i)) new
-request_take pending firsts new i line marks within at (place, oldest, is) =
+pub request_take : (pending : List Pending) (firsts new : List Bool) (i line : ℕ) (place : Option ℕ) → AreFirsts (lines pending) firsts → i < length pending → get_or (lines pending) i 0 ≡ line →
+    IsOldestAt line (lines (remove pending i)) place → new ≡ marked_at place (remove firsts i) → AreFirsts (lines (remove pending i)) new
+request_take pending firsts new i line place marks within at oldest is =
     let left = lines_remove pending i in
-    rw (left, is) (firsts_take (lines pending) firsts i place marks (omega (arith, within, length-map pending (λ (q : Pending). q.line))) (rw (at, ← left) (oldest_at line (lines (remove pending i)) place oldest)))
+    rw (left, is) (firsts_take (lines pending) firsts i place marks (omega (arith, within, length-map pending (λ (q : Pending). q.line))) (rw (at, ← left) oldest))
 
 -- what is true of a queue
 
@@ -158,10 +144,9 @@ order_held : (hold : Option ℕ) (pending : List Pending) → AreInOrder pending
 order_held hold pending order i j d = grind (arith, order i j d, get_or-map (held_by hold) pending i d d, get_or-map (held_by hold) pending j d d, length-map pending (held_by hold))
 
 -- a loop that holds each request
-pub hold_more : (hold : Option ℕ) (xs ys : List Pending) (i : ℕ) (d : Pending) (b : Bool) → i < length xs → length ys ≡ length xs → ys ≡ map (held_by hold) (take i xs) ++ drop i xs → b ≡ is_held hold (get_or ys i d).kind (get_or ys i d).number →
-    set ys i (record (get_or ys i d) { held = b }) ≡ map (held_by hold) (take (i + 1) xs) ++ drop (i + 1) xs
-hold_more hold xs ys i d b within size is held =
-    rw held (map_over_more (held_by hold) xs ys i (get_or ys i d) within is (sym (get_or_from_slice_get ys i (get_or ys i d) (get_or ys i d) (slice_get-get_or ys i d (omega (arith, within, size))))))
+pub hold_more : (hold : Option ℕ) (xs ys : List Pending) (i : ℕ) (p : Pending) (b : Bool) → i < length xs → ys ≡ map (held_by hold) (take i xs) ++ drop i xs → p ≡ get_or ys i p → b ≡ is_held hold p.kind p.number →
+    set ys i (record p { held = b }) ≡ map (held_by hold) (take (i + 1) xs) ++ drop (i + 1) xs
+hold_more hold xs ys i p b within is read held = rw held (map_over_more (held_by hold) xs ys i p within is read)
 
 pub lines_held : (hold : Option ℕ) (pending : List Pending) → lines (map (held_by hold) pending) ≡ lines pending
 lines_held hold pending = map-map (λ p. p.line) (held_by hold) pending
@@ -172,7 +157,3 @@ waiting_held w hold is = record {
   before = All-map (λ q. q.seq < w.next) (held_by hold) w.requests is.before;
   few = (let n = length-map w.requests (held_by hold) in let f = is.few in omega (arith, n, f));
 }
-
--- a list written through a slice
-pub written : {X : Type 0} (xs ys : List X) (n : ℕ) → n ≡ length ys → take n (ys ++ xs) ≡ ys
-written xs ys n e = ap (λ (k : ℕ). take k (ys ++ xs)) e ∙ take-append_seam ys xs

@@ -17,6 +17,7 @@ place_of k = record { channel = 0; rank = k.bank / 16; group = k.bank / 4 % 4; b
 -- The key is the request's.
 pub record IsKeyOf (p : Pending) (k : Key) : Type 0 where
   pub row : k.row ≡ p.place.row
+  pub line : k.line ≡ p.line
   pub bank : k.bank ≡ bank_number p.place
   pub kind : k.kind ≡ p.kind
   pub held : k.held ≡ p.held

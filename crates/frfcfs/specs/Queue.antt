@@ -1,5 +1,6 @@
 -- What contracts see of a queue of requests.
-use Rattle.std.specs.Prelude.{◌≡◌, ◌≢◌, ℕ, ◌+◌, ◌<◌, ◌≤◌, ◌↔◌, Bool, false, true, not, nat_lt, IsTrue, List, [], ◌∷◌, drop, filter, length, map, slice_index, slice_get, slice_index_or, slice_set, Option, Some, None, All}
+use Rattle.std.specs.Prelude.{◌≡◌, ◌≢◌, ℕ, ◌+◌, ◌<◌, ◌≤◌, ◌↔◌, Bool, false, true, not, nat_lt, IsTrue, List, [], ◌∷◌, filter, length, map, slice_index, slice_get, slice_index_or, slice_set, Option, Some, None, All}
+use Rattle.gap_list.specs.Bounded.{Bounded}
 use Rattle.frfcfs.specs.declared.key.Key.{Key}
 use Rattle.frfcfs.specs.declared.pending.Kind.{Kind}
 use Rattle.frfcfs.specs.declared.pending.Kind.TheVariants.{Read, Write}
@@ -28,18 +29,12 @@ pub record AreFirsts (lines : List ℕ) (firsts : List Bool) : Type 0 where
   pub size : length firsts ≡ length lines
   pub each : (i : ℕ) → i < length lines → (IsTrue (slice_index_or firsts i false) ↔ IsFirstAt lines i)
 
--- What is true of what a queue keeps: its requests are those from a start on, with the line and a key of each, and there is
--- room for as many as it may hold.
-pub record KeepsRequests (most next start room : ℕ) (pending : List Pending) (lines : List ℕ) (keys : List Key) : Type 0 where
-  pub waiting : IsWaiting (record { most = most; next = next; requests = drop start pending })
-  pub names : drop start lines ≡ map (λ p. p.line) (drop start pending)
-  pub marks : AreFirsts (map (λ p. p.line) (drop start pending)) (firsts_of (drop start keys))
-  pub keyed : AreKeys (drop start pending) (drop start keys)
-  pub within : start ≤ length pending
-  pub named : length lines ≡ length pending
-  pub size : length keys ≡ length pending
-  pub fits : length pending ≤ room
-  pub enough : most ≤ room
+-- What is true of what a queue keeps: beside its requests a key of each, with room for as many.
+pub record KeepsRequests (queue : Waiting) (keys : Bounded Key) : Type 0 where
+  pub waiting : IsWaiting queue
+  pub marks : AreFirsts (map (λ p. p.line) queue.requests) (firsts_of keys.items)
+  pub keyed : AreKeys queue.requests keys.items
+  pub room : keys.most ≡ queue.most
 
 -- writes from a number on are held
 abbrev pub is_held : Option ℕ → Kind → ℕ → Bool
@@ -51,10 +46,11 @@ is_held (Some from) Write number = not (nat_lt number from)
 abbrev pub held_by : Option ℕ → Pending → Pending
 held_by hold p = record p { held = is_held hold p.kind p.number }
 
--- where a line stands first among these, if it is one of them
-abbrev pub IsOldestOf : ℕ → List ℕ → Option ℕ → Type 0
-IsOldestOf line lines None = All (λ other. other ≢ line) lines
-IsOldestOf line lines (Some i) = (slice_get lines i ≡ Some line) × ((j : ℕ) → j < i → slice_get lines j ≢ Some line)
+-- where the first of these keys stands that names a line, if one does
+abbrev pub IsOldestOf : ℕ → List Key → Option ℕ → Type 0
+IsOldestOf line keys None = All (λ key. key.line ≢ line) keys
+IsOldestOf line keys (Some i) =
+    (key : Key) × (slice_get keys i ≡ Some key) × (key.line ≡ line) × ((j : ℕ) (other : Key) → j < i → slice_get keys j ≡ Some other → other.line ≢ line)
 
 -- the marks with the one at a place set, if there is a place
 abbrev pub marked_at : Option ℕ → List Bool → List Bool
@@ -62,8 +58,8 @@ marked_at None firsts = firsts
 marked_at (Some i) firsts = slice_set firsts i true
 
 -- the oldest request of a line is marked, and the other marks stay
-abbrev pub MarksOldest : ℕ → List ℕ → List Bool → List Bool → Type 0
-MarksOldest line lines old new = (place : Option ℕ) × IsOldestOf line lines place × (new ≡ marked_at place old)
+abbrev pub MarksOldest : ℕ → List Key → List Bool → List Bool → Type 0
+MarksOldest line keys old new = (place : Option ℕ) × IsOldestOf line keys place × (new ≡ marked_at place old)
 
 -- a write among the requests
 abbrev pub is_write : Kind → Bool

@@ -8,10 +8,11 @@ use crate::pending::Kind;
 use ddr4_timing::command::Command;
 use ddr4_timing::place::{BankAddress, Place};
 
-/// What the choice asks of a request before its turn comes, in a fifth of the room that the request takes.
+/// What the choice asks of a request before its turn comes, in a fourth of the room that the request takes.
 #[derive(Clone, Copy)]
 pub(crate) struct Key {
     pub(crate) row: u64,
+    pub(crate) line: u64,
     /// Where its bank stands in a table of the 64 banks that a channel has at most.
     pub(crate) bank: u8,
     pub(crate) kind: Kind,

@@ -1,5 +1,5 @@
 // The pending requests of a channel, in order of arrival.
-ghost use Rattle.std.specs.Prelude.{◌≡◌, ◌≢◌, ◌↔◌, ◌+◌, ◌-◌, ◌<◌, ◌≤◌, ◌^◌, ◌++◌, ◌∷◌, [], List, Some, All, IfOk, IsTrue, drop, length, map, remove, slice_get, vec_capacity};
+ghost use Rattle.std.specs.Prelude.{◌≡◌, ◌≢◌, ◌↔◌, ◌+◌, ◌-◌, ◌<◌, ◌≤◌, ◌^◌, ◌++◌, ◌∷◌, [], List, Some, All, IfOk, IsTrue, length, map, remove, slice_get};
 ghost use Rattle.ddr4_timing.specs.Places.{LiesIn};
 ghost use Rattle.frfcfs.specs.declared.pending.Pending.{Pending};
 ghost use Rattle.frfcfs.specs.Requests.{AreInOrder};
@@ -12,112 +12,54 @@ use crate::key::{Key, bank_number};
 use crate::pending::{Kind, Pending};
 use ddr4_timing::place::Place;
 use ddr4_timing::timing::Geometry;
+use gap_list::GapList;
 use std::alloc::{AllocError, Global};
 use std::marker::Model;
 
 /// The pending requests of a channel, in order of arrival. It keeps a key of each, which says beside its bank, row and kind
-/// whether it is held and whether it is the first of its line, so that no search has to look for older ones. Their lines stand
-/// in a row of their own, so that a push and a take look at nothing else.
+/// whether it is held and whether it is the first of its line, so that no search has to look for older ones.
 #[derive(Drop)]
 pub struct Queue {
-    // The requests are those from `start` on. One that is taken out makes room at the front, where fewer are older than younger:
-    // the older ones move up. Else the younger ones move down.
-    pending: Vec<Pending>,
-    lines: Vec<u64>,
-    keys: Vec<Key>,
-    start: usize,
-    room: usize,
-    most: usize,
+    pending: GapList<Pending>,
+    keys: GapList<Key>,
     next: u64,
 }
 
 impl Model for Queue {
     ghost Value = { Waiting };
 
-    ghost view = { λ q. record { most = q.most; next = q.next; requests = drop q.start q.pending.items } };
+    ghost view = { λ q. record { most = q.pending.most; next = q.next; requests = q.pending.items } };
 
-    ghost invariant = { λ q. KeepsRequests q.most q.next q.start q.room q.pending.items q.lines.items q.keys.items
-        × (q.room ≤ vec_capacity q.pending) × (q.room ≤ vec_capacity q.lines)
-        × (q.room ≤ vec_capacity q.keys) };
+    ghost invariant = { λ q. KeepsRequests (record { most = q.pending.most; next = q.next; requests = q.pending.items })
+        q.keys };
 }
 
-// Is the line none of these?
-fn is_new(lines: &[u64], line: u64) -> bool
-    ensures { IsTrue result ↔ All (λ other. other ≢ line) lines.now }
+// Is the line that of no key?
+fn is_new(keys: &[Key], line: u64) -> bool
+    ensures { IsTrue result ↔ All (λ key. key.line ≢ line) keys.now }
 {
-    lines.iter().all(|other| *other != line)
+    keys.iter().all(|key| key.line != line)
 }
 
 // Where the oldest request of a line stands.
-fn oldest_of(lines: &[u64], line: u64) -> Option<usize>
-    ensures { IsOldestOf line lines.now result }
+fn oldest_of(keys: &[Key], line: u64) -> Option<usize>
+    ensures { IsOldestOf line keys.now result }
 {
-    lines.iter().position(|other| *other == line)
+    keys.iter().position(|key| key.line == line)
 }
 
-// Marks the oldest request of a line among those from a start on.
-fn mark_oldest(lines: &[u64], keys: &mut [Key], start: usize, line: u64)
-    requires start { start ≤ length lines.now }
-    requires size { length keys.old ≡ length lines.now }
-    ensures marks { MarksOldest line (drop start lines.now)
-        (firsts_of (drop start keys.old)) (firsts_of (drop start keys.new)) }
+// Marks the oldest request of a line.
+fn mark_oldest(keys: &mut GapList<Key>, line: u64)
+    ensures marks { MarksOldest line keys.old.items
+        (firsts_of keys.old.items) (firsts_of keys.new.items) }
     ensures keys { (pending : List Pending) →
-        AreKeys pending (drop start keys.old) → AreKeys pending (drop start keys.new) }
-    ensures size { length keys.new ≡ length keys.old }
+        AreKeys pending keys.old.items → AreKeys pending keys.new.items }
+    ensures most { keys.new.most ≡ keys.old.most }
 {
-    if let Some(place) = oldest_of(&lines[start..], line) {
-        keys[start + place].first = true;
+    if let Some(place) = oldest_of(keys.as_slice(), line) {
+        let key = keys.as_slice()[place];
+        keys.set(place, Key { first: true, ..key });
     }
-}
-
-// Takes an element out of those from a start on: the ones before it move up.
-fn take_out<T: Copy>(items: &mut [T], start: usize, place: usize) -> T
-    requires { start + place < length items.old }
-    ensures taken { slice_get (drop start items.old) place ≡ Some result }
-    ensures left { drop (start + 1) items.new ≡ remove (drop start items.old) place }
-    ensures size { length items.new ≡ length items.old }
-{
-    let taken = items[start + place];
-    items.copy_within(start..start + place, start + 1);
-    taken
-}
-
-// Where the elements from a start on begin, so many, when the one at a place is gone: a place further where fewer stand
-// before it than behind it.
-fn start_without(start: usize, place: usize, size: usize) -> usize
-    requires { start + size < 2 ^ 64 }
-    ensures least { start ≤ result }
-    ensures most { result ≤ start + 1 }
-{
-    if place < size / 2 { start + 1 } else { start }
-}
-
-// Takes an element out of those from a start on, which are those from `next` on behind it: the ones before it move up where
-// that is one place further, and else the ones behind it move down.
-fn take_out_towards<T: Copy>(items: &mut Vec<T>, start: usize, place: usize, next: usize) -> T
-    requires place { start + place < length items.old.items }
-    requires next { (start ≤ next) × (next ≤ start + 1) }
-    ensures taken { slice_get (drop start items.old.items) place ≡ Some result }
-    ensures left { drop next items.new.items ≡ remove (drop start items.old.items) place }
-    ensures size { length items.new.items + 1 + start ≡ length items.old.items + next }
-    ensures capacity { vec_capacity items.new ≡ vec_capacity items.old }
-{
-    if next == start {
-        items.remove(start + place)
-    } else {
-        take_out(items, start, place)
-    }
-}
-
-// Moves the elements from a start on to the front.
-fn move_to_front<T: Copy>(items: &mut Vec<T>, start: usize)
-    requires { start ≤ length items.old.items }
-    ensures items { items.new.items ≡ drop start items.old.items }
-    ensures capacity { vec_capacity items.new ≡ vec_capacity items.old }
-{
-    let size = items.len() - start;
-    items.copy_within(start.., 0);
-    items.truncate(size);
 }
 
 /// Whether a request is held, where writes from a number on are.
@@ -131,30 +73,37 @@ pub fn is_held(hold: Option<u64>, kind: Kind, number: u64) -> bool
 }
 
 // Gives each request the mark of a hold.
-fn hold_each(pending: &mut [Pending], from: Option<u64>)
-    ensures { pending.new ≡ map (held_by from) pending.old }
+fn hold_each(pending: &mut GapList<Pending>, from: Option<u64>)
+    ensures { pending.new ≡ record pending.old { items = map (held_by from) pending.old.items } }
 {
-    for p in pending.iter_mut() {
-        p.held = is_held(from, p.kind, p.number);
+    for place in 0..pending.len() {
+        let p = pending.as_slice()[place];
+        let held = is_held(from, p.kind, p.number);
+        pending.set(place, Pending { held, ..p });
     }
 }
 
 // Gives each key the mark of its request.
-fn hold_keys(keys: &mut [Key], pending: &[Pending])
-    requires { length keys.old ≡ length pending.now }
-    ensures { AreHeldBy pending.now keys.old keys.new }
+fn hold_keys(keys: &mut GapList<Key>, pending: &[Pending])
+    requires { length keys.old.items ≡ length pending.now }
+    ensures held { AreHeldBy pending.now keys.old.items keys.new.items }
+    ensures most { keys.new.most ≡ keys.old.most }
 {
-    for (place, key) in keys.iter_mut().enumerate() {
-        key.held = pending[place].held;
+    for place in 0..pending.len() {
+        let key = keys.as_slice()[place];
+        let held = pending[place].held;
+        keys.set(place, Key { held, ..key });
     }
 }
 
 // Makes each request's seq its place.
-fn number_each(pending: &mut [Pending])
-    ensures { pending.new ≡ numbered_from 0 pending.old }
+fn number_each(pending: &mut GapList<Pending>)
+    ensures { pending.new ≡ record pending.old { items = numbered_from 0 pending.old.items } }
 {
-    for (place, p) in pending.iter_mut().enumerate() {
-        p.seq = place as u64;
+    for place in 0..pending.len() {
+        let p = pending.as_slice()[place];
+        let seq = place as u64;
+        pending.set(place, Pending { seq, ..p });
     }
 }
 
@@ -164,14 +113,9 @@ impl Queue {
     pub fn with_room(alloc: Global, most: usize) -> Result<Queue, AllocError>
         ensures { IfOk result (λ queue. queue ≡ record { most = most; next = 0; requests = [] }) }
     {
-        let room = most.saturating_mul(2);
         Ok(Queue {
-            pending: Vec::with_capacity(alloc, room)?,
-            lines: Vec::with_capacity(alloc, room)?,
-            keys: Vec::with_capacity(alloc, room)?,
-            start: 0,
-            room,
-            most,
+            pending: GapList::with_room(alloc, most)?,
+            keys: GapList::with_room(alloc, most)?,
             next: 0,
         })
     }
@@ -181,14 +125,14 @@ impl Queue {
         ensures value { result.now ≡ self.now.requests }
         ensures order { AreInOrder result.now }
     {
-        &self.pending[self.start..]
+        self.pending.as_slice()
     }
 
     /// Whether there is no room for a further one.
     pub fn is_full(&self) -> bool
         ensures { IsTrue result ↔ (self.now.most ≤ length self.now.requests) }
     {
-        self.most <= self.requests().len()
+        self.pending.is_full()
     }
 
     /// The seq of the request that is pushed next: how many were pushed before it.
@@ -205,19 +149,12 @@ impl Queue {
         self.requests().iter().all(|p| p.place.lies_in(geometry))
     }
 
-    // The line of each request.
-    fn lines(&self) -> &[u64]
-        ensures { result.now ≡ map (λ p. p.line) self.now.requests }
-    {
-        &self.lines[self.start..]
-    }
-
     /// A key of each request.
     pub(crate) fn keys(&self) -> &[Key]
         ensures keys { AreKeys self.now.requests result.now }
         ensures firsts { AreFirsts (map (λ p. p.line) self.now.requests) (firsts_of result.now) }
     {
-        &self.keys[self.start..]
+        self.keys.as_slice()
     }
 
     /// Adds a request behind the others. It looks at each of them.
@@ -229,14 +166,8 @@ impl Queue {
         ensures next { self.new.next ≡ self.old.next + 1 }
         ensures most { self.new.most ≡ self.old.most }
     {
-        if self.pending.len() == self.room {
-            move_to_front(&mut self.pending, self.start);
-            move_to_front(&mut self.lines, self.start);
-            move_to_front(&mut self.keys, self.start);
-            self.start = 0;
-        }
-        let first = is_new(self.lines(), line);
-        self.pending.push_reserved(Pending {
+        let first = is_new(self.keys.as_slice(), line);
+        self.pending.push(Pending {
             seq: self.next,
             place,
             line,
@@ -244,9 +175,9 @@ impl Queue {
             number,
             held,
         });
-        self.lines.push_reserved(line);
-        self.keys.push_reserved(Key {
+        self.keys.push(Key {
             row: place.row,
+            line,
             bank: bank_number(&place),
             kind,
             first,
@@ -262,12 +193,9 @@ impl Queue {
         ensures taken { slice_get self.old.requests place ≡ Some result }
         ensures left { self.new ≡ record self.old { requests = remove self.old.requests place } }
     {
-        let next = start_without(self.start, place, self.requests().len());
-        let taken = take_out_towards(&mut self.pending, self.start, place, next);
-        take_out_towards(&mut self.lines, self.start, place, next);
-        take_out_towards(&mut self.keys, self.start, place, next);
-        self.start = next;
-        mark_oldest(&self.lines, &mut self.keys, self.start, taken.line);
+        let taken = self.pending.take(place);
+        self.keys.take(place);
+        mark_oldest(&mut self.keys, taken.line);
         taken
     }
 
@@ -276,7 +204,7 @@ impl Queue {
         ensures { self.new ≡ record self.old { requests = map (held_by from) self.old.requests } }
     {
         hold_each(&mut self.pending, from);
-        hold_keys(&mut self.keys, &self.pending);
+        hold_keys(&mut self.keys, self.pending.as_slice());
     }
 
     /// Drops the reads, and numbers the writes anew from 0. It takes each read out.
@@ -286,10 +214,6 @@ impl Queue {
         ensures most { self.new.most ≡ self.old.most }
     {
         self.drop_reads();
-        move_to_front(&mut self.pending, self.start);
-        move_to_front(&mut self.lines, self.start);
-        move_to_front(&mut self.keys, self.start);
-        self.start = 0;
         number_each(&mut self.pending);
         self.next = self.pending.len() as u64;
     }

@@ -1,3 +1,2 @@
 pub mod PendingLaws
 pub mod Numbers
-pub mod Shifts

@@ -1,14 +1,13 @@
--- Numbers that rise, and lines beside their writes.
+-- Numbers that rise.
 use Rattle.std.proofs.Common.{◌≡◌, ℕ, ◌+◌, ◌<◌, ◌≤◌, List, [], ◌∷◌, ◌++◌, true, false, length, length-append, remove, get_or, slice_get, Some, None, inl, inr, arith, ap, ◌∙◌, sym, refl, ltb, ltb-true, lt-ltb}
 use Rattle.std.proofs.lemmas.Bool.{cases_order, cases_lt}
-use Rattle.std.proofs.lemmas.List.{get_or-map, get_or_append_left, get_or_push, length-map, map-append}
+use Rattle.std.proofs.lemmas.List.{get_or_append_left, get_or_push}
 use Rattle.std.proofs.lemmas.List.Edits.{get_or-remove_above, get_or-remove_below, length-remove}
-use Rattle.std.specs.List.{drop-map, take-map}
 use Rattle.std.proofs.lemmas.Option.{get_or_from_slice_get, slice_get-get_or, slice_get_within}
 use Rattle.std.specs.List.Sorted.{IsPartitionPoint}
 use Rattle.wpq_core.specs.declared.queue.PendingWrite.{PendingWrite}
 use Rattle.wpq_core.specs.Queue.{IsWriteQueue, Queue}
-use Rattle.wpq_core.specs.Writes.{ComeBefore, IsLastPlace, IsNewest, NoWriteNames, NumbersRise, lines_of}
+use Rattle.wpq_core.specs.Writes.{ComeBefore, NumbersRise}
 
 -- a number is that of one pending write
 pub NumbersRise-one : (writes : List PendingWrite) (i j : ℕ) (v w : PendingWrite) → NumbersRise writes → slice_get writes i ≡ Some v → slice_get writes j ≡ Some w → v.number ≡ w.number → i ≡ j
@@ -43,27 +42,6 @@ module _ {X : Type 0} (n : X → ℕ) (xs : List X) (rise : (i j : ℕ) (x y : X
             let c : ltb (n first) t ≡ false = point.1 place y (omega arith) (omega (arith, more, within)) in
             absurd (cc (b, c))
       ]
-
-line_at : (writes : List PendingWrite) (i : ℕ) (w : PendingWrite) → slice_get writes i ≡ Some w → get_or (lines_of writes) i 0 ≡ w.write.line
-line_at writes i w at = get_or-map (λ (v : PendingWrite). v.write.line) writes i w 0 (slice_get_within writes i w at) ∙ ap (λ (v : PendingWrite). v.write.line) (get_or_from_slice_get writes i w w at)
-
-line_there : (writes : List PendingWrite) (i : ℕ) (w : PendingWrite) → slice_get writes i ≡ Some w → slice_get (lines_of writes) i ≡ Some w.write.line
-line_there writes i w at = slice_get-get_or (lines_of writes) i 0 (omega (arith, slice_get_within writes i w at, length-map writes (λ (v : PendingWrite). v.write.line))) ∙ ap Some (line_at writes i w at)
-
-pub no_write_names : (line : ℕ) (writes : List PendingWrite) → IsLastPlace line (lines_of writes) None → NoWriteNames line writes
-no_write_names line writes none i w at same = none i 0 (omega (arith, slice_get_within writes i w at, length-map writes (λ (v : PendingWrite). v.write.line))) (line_at writes i w at ∙ same)
-
--- the write whose line stands last
-pub newest_at : (line place : ℕ) (writes : List PendingWrite) (w : PendingWrite) → slice_get writes place ≡ Some w → IsLastPlace line (lines_of writes) (Some place) → IsNewest line writes (Some w.write.«data»)
-newest_at line place writes w at last =
-    let own = line_there writes place w at in (
-      place,
-      w,
-      at,
-      cc (last.0, own),
-      refl,
-      λ j v later there same. last.1 j later (line_there writes j v there ∙ ap Some same),
-    )
 
 -- a queue with one write more, and one less
 
@@ -106,9 +84,3 @@ queue_take q i is within = record { rise = rise; few = omega (arith, length-remo
         | inr h ↦ is.rise (a + 1) (b + 1) u v (omega (arith, less)) (above a u h at) (above b v g there)
       ]
     ]
-
-pub lines_push : (writes : List PendingWrite) (w : PendingWrite) → lines_of (writes ++ w ∷ []) ≡ lines_of writes ++ w.write.line ∷ []
-lines_push writes w = map-append (λ (v : PendingWrite). v.write.line) writes (w ∷ [])
-
-pub lines_take : (writes : List PendingWrite) (i : ℕ) → lines_of (remove writes i) ≡ remove (lines_of writes) i
-lines_take writes i = simp (map-append, take-map, drop-map)

@@ -1,14 +1,10 @@
 -- Pending writes, oldest first.
-use Rattle.std.specs.Prelude.{◌≡◌, ◌≢◌, ℕ, ◌<◌, All, List, map, remove, slice_get, Option, Some, None}
+use Rattle.std.specs.Prelude.{◌≡◌, ◌≢◌, ℕ, ◌<◌, List, remove, slice_get, Option, Some, None}
 use Rattle.wpq_core.specs.declared.queue.PendingWrite.{PendingWrite}
 
 -- a pending write by its parts
 abbrev pub pending_write : ℕ → ℕ → List ℕ → PendingWrite
 pending_write number line bytes = record { number = number; write = record { line = line; «data» = bytes } }
-
--- the line of each
-abbrev pub lines_of : List PendingWrite → List ℕ
-lines_of writes = map (λ w. w.write.line) writes
 
 -- every pending write came before this number
 pub record ComeBefore (number : ℕ) (writes : List PendingWrite) : Type 0 where
@@ -17,11 +13,6 @@ pub record ComeBefore (number : ℕ) (writes : List PendingWrite) : Type 0 where
 -- their numbers rise
 abbrev pub NumbersRise : List PendingWrite → Type 0
 NumbersRise writes = (i j : ℕ) (v w : PendingWrite) → i < j → slice_get writes i ≡ Some v → slice_get writes j ≡ Some w → v.number < w.number
-
--- where a line stands last among these, if it is one of them
-abbrev pub IsLastPlace : ℕ → List ℕ → Option ℕ → Type 0
-IsLastPlace line lines None = All (λ other. other ≢ line) lines
-IsLastPlace line lines (Some i) = (slice_get lines i ≡ Some line) × ((j : ℕ) → i < j → slice_get lines j ≢ Some line)
 
 -- no pending write names the line
 abbrev pub NoWriteNames : ℕ → List PendingWrite → Type 0

@@ -5,9 +5,7 @@
 #![tactic(auto)]
 
 mod laws;
-mod moves;
 mod queue;
 
 pub use laws::pending_writes;
-pub use moves::take_out;
 pub use queue::{PendingWrite, QueueFull, Wpq};

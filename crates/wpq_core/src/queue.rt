@@ -1,9 +1,9 @@
 // The queue, with its room reserved once.
-ghost use Rattle.std.specs.Prelude.{◌≡◌, ℕ, ◌≤◌, ◌<◌, ◌^◌, ◌↔◌, [], length, nat_lt, count_by, IfErr, IfNone, IfOk, IfSome, IsOk, IsTrue, OnErr, OnOk, vec_capacity};
-ghost use Rattle.wpq_core.specs.Writes.{ComeBefore, IsLastPlace, IsNewest, IsPlaceOfWrite, NumbersRise, TakesWrite, lines_of, pending_write};
+ghost use Rattle.std.specs.Prelude.{◌≡◌, ℕ, ◌≤◌, ◌<◌, ◌^◌, ◌↔◌, [], length, nat_lt, count_by, IfErr, IfNone, IfOk, IfSome, IsOk, IsTrue, OnErr, OnOk};
+ghost use Rattle.wpq_core.specs.Writes.{ComeBefore, IsNewest, IsPlaceOfWrite, NumbersRise, TakesWrite, pending_write};
 ghost use Rattle.wpq_core.specs.Queue.{Queue, IsWriteQueue, PushesWrite};
 
-use crate::moves::take_out;
+use gap_list::GapList;
 use line_memory::{Line, Write};
 use std::alloc::{AllocError, Global};
 use std::marker::Model;
@@ -25,20 +25,15 @@ pub struct QueueFull {
 /// Pending writes in the order of their numbers, oldest first: at most `depth`, which is 1 to 64.
 #[derive(Debug, Drop)]
 pub struct Wpq {
-    depth: usize,
-    writes: Vec<PendingWrite>,
-    // The line of each stands in a row of its own too, so that a look for one reads nothing else.
-    lines: Vec<u64>,
+    writes: GapList<PendingWrite>,
 }
 
 impl Model for Wpq {
     ghost Value = { Queue };
 
-    ghost view = { λ q. record { depth = q.depth; writes = q.writes.items } };
+    ghost view = { λ q. record { depth = q.writes.most; writes = q.writes.items } };
 
-    ghost invariant = { λ q. IsWriteQueue (record { depth = q.depth; writes = q.writes.items })
-        × (q.lines.items ≡ lines_of q.writes.items) × (q.depth ≤ vec_capacity q.writes)
-        × (q.depth ≤ vec_capacity q.lines) };
+    ghost invariant = { λ q. IsWriteQueue (record { depth = q.writes.most; writes = q.writes.items }) };
 }
 
 impl Wpq {
@@ -51,9 +46,7 @@ impl Wpq {
         ensures queue { IfOk result IsWriteQueue }
     {
         Ok(Wpq {
-            depth,
-            writes: Vec::with_capacity(alloc, depth)?,
-            lines: Vec::with_capacity(alloc, depth)?,
+            writes: GapList::with_room(alloc, depth)?,
         })
     }
 
@@ -61,14 +54,8 @@ impl Wpq {
     pub fn copy(&self, alloc: Global) -> Result<Wpq, AllocError>
         ensures { IfOk result (λ copy. copy ≡ self.now) }
     {
-        let mut writes = Vec::with_capacity(alloc, self.depth)?;
-        writes.extend_from_slice(&self.writes)?;
-        let mut lines = Vec::with_capacity(alloc, self.depth)?;
-        lines.extend_from_slice(&self.lines)?;
         Ok(Wpq {
-            depth: self.depth,
-            writes,
-            lines,
+            writes: self.writes.copy(alloc)?,
         })
     }
 
@@ -83,14 +70,14 @@ impl Wpq {
     pub fn is_empty(&self) -> bool
         ensures { IsTrue result ↔ (self.now.writes ≡ []) }
     {
-        self.writes.is_empty()
+        self.writes().is_empty()
     }
 
     /// Whether `try_push` would refuse.
     pub fn is_full(&self) -> bool
         ensures { IsTrue result ↔ (length self.now.writes ≡ self.now.depth) }
     {
-        self.len() == self.depth
+        self.writes.is_full()
     }
 
     /// The pending writes, oldest first.
@@ -98,7 +85,7 @@ impl Wpq {
         ensures writes { result.now ≡ self.now.writes }
         ensures queue { IsWriteQueue self.now }
     {
-        &self.writes
+        self.writes.as_slice()
     }
 
     /// The least number that a further write may have; None where a pending write has the greatest number that there is.
@@ -106,7 +93,7 @@ impl Wpq {
         ensures free { IfSome result (λ n. (m : ℕ) → (ComeBefore m self.now.writes ↔ (n ≤ m))) }
         ensures none { IfNone result ((m : ℕ) → ComeBefore m self.now.writes → 2 ^ 64 ≤ m) }
     {
-        match self.writes.last() {
+        match self.writes().last() {
             Some(newest) => newest.number.checked_add(1),
             None => Some(0),
         }
@@ -116,7 +103,7 @@ impl Wpq {
     pub fn may_take(&self, number: u64) -> bool
         ensures { IsTrue result ↔ ComeBefore number self.now.writes }
     {
-        match self.writes.last() {
+        match self.writes().last() {
             Some(newest) => newest.number < number,
             None => true,
         }
@@ -126,19 +113,23 @@ impl Wpq {
     pub fn below(&self, limit: u64) -> usize
         ensures { result ≡ count_by (λ pending. nat_lt pending.number limit) self.now.writes }
     {
-        self.writes
+        self.writes()
             .iter()
             .filter(|pending| pending.number < limit)
             .count()
     }
 
-    /// The data of the newest pending write of a line; None exactly where none names the line. It looks at the lines of the
-    /// pending writes from the newest on, up to that one.
+    /// The data of the newest pending write of a line; None exactly where none names the line. It looks at the pending
+    /// writes from the newest on, up to that one.
     pub fn newest_for(&self, line: u64) -> Option<Line>
         ensures { IsNewest line self.now.writes result }
     {
-        let place = last_place(&self.lines, line)?;
-        Some(self.writes[place].write.data)
+        let place = self
+            .writes()
+            .iter()
+            .rposition(|pending| pending.write.line == line)?;
+        let newest = self.writes()[place];
+        Some(newest.write.data)
     }
 
     /// Adds a write behind the others. Its number has to be above theirs. Refused, `QueueFull`, exactly where the queue holds
@@ -158,21 +149,19 @@ impl Wpq {
         if self.is_full() {
             return Err(QueueFull { refused: pending });
         }
-        self.writes.push_reserved(pending);
-        self.lines.push_reserved(line);
+        self.writes.push(pending);
         Ok(())
     }
 
     /// Takes the pending write of a number out and gives its data; None, and the queue stays, exactly where no pending
-    /// write has the number. It finds it by halves, and moves those behind it.
+    /// write has the number. It finds it by halves, and moves those before it or those behind it, whichever are fewer.
     pub fn take(&mut self, number: u64) -> Option<Line>
         ensures depth { self.new.depth ≡ self.old.depth }
         ensures takes { TakesWrite number self.old.writes result self.new.writes }
         ensures queue { IsWriteQueue self.new }
     {
-        let place = place_of(&self.writes, number)?;
-        take_out(&mut self.lines, place);
-        Some(take_out(&mut self.writes, place).write.data)
+        let place = place_of(self.writes.as_slice(), number)?;
+        Some(self.writes.take(place).write.data)
     }
 }
 
@@ -188,11 +177,4 @@ fn place_of(writes: &[PendingWrite], number: u64) -> Option<usize>
     } else {
         None
     }
-}
-
-// Where a line stands last among these, if it is one of them.
-fn last_place(lines: &[u64], line: u64) -> Option<usize>
-    ensures { IsLastPlace line lines.now result }
-{
-    lines.iter().rposition(|other| *other == line)
 }

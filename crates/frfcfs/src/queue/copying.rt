@@ -2,7 +2,6 @@
 ghost use Rattle.std.specs.Prelude.{◌≡◌, IfOk};
 
 use crate::queue::Queue;
-use same_values::copy_with_room;
 use std::alloc::{AllocError, Global};
 
 impl Queue {
@@ -10,16 +9,9 @@ impl Queue {
     pub fn copy(&self, alloc: Global) -> Result<Queue, AllocError>
         ensures { IfOk result (λ copy. copy ≡ self.now) }
     {
-        let pending = copy_with_room(alloc, &self.pending, self.room)?;
-        let lines = copy_with_room(alloc, &self.lines, self.room)?;
-        let keys = copy_with_room(alloc, &self.keys, self.room)?;
         Ok(Queue {
-            pending,
-            lines,
-            keys,
-            start: self.start,
-            room: self.room,
-            most: self.most,
+            pending: self.pending.copy(alloc)?,
+            keys: self.keys.copy(alloc)?,
             next: self.next,
         })
     }

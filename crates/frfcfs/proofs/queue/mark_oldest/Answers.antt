@@ -1,19 +1,29 @@
-use Rattle.std.proofs.Common.{◌≡◌, ◌-◌, ◌<◌, ℕ, Option, Some, length, take, drop, subst, arith, ap, ◌∙◌}
-use Rattle.std.proofs.lemmas.List.{drop-set-add, get_or-drop, length-drop, map-set, take_all}
-use Rattle.frfcfs.proofs.Common.{IsOldestOf, Key, firsts_of}
+use Rattle.std.proofs.Common.{◌≡◌, ◌<◌, false, List, Option, Some, ℕ, length, subst, sym, ap, ◌∙◌, arith, get_or}
+use Rattle.std.proofs.lemmas.List.{get_or_default, map-set}
+use Rattle.std.proofs.lemmas.Option.{slice_get_within}
+use Rattle.gap_list.specs.Bounded.{Bounded}
+use Rattle.frfcfs.proofs.Common.{AreKeys, IsOldestOf, Key, Read, firsts_of}
 use Rattle.frfcfs.proofs.KeyLemmas.{keys_mark}
 use Rattle.frfcfs.proofs.queue.mark_oldest.Goals as goal
 
+-- the first key of the line, where there is one
+oldest : (line : ℕ) (keys read : List Key) (found place : Option ℕ) → read ≡ keys → found ≡ place → IsOldestOf line read found → IsOldestOf line keys place
+oldest line keys read found place same is here = subst (λ (xs : List Key). IsOldestOf line xs place) same (subst (λ (o : Option ℕ). IsOldestOf line read o) is here)
+
 pub returns-in-Some-clause-marks : goal.returns-in-Some-clause-marks
-returns-in-Some-clause-marks c =
-    let rest = drop c.args.start c.args.lines.now in
-    let whole : take (length c.args.lines.now - c.args.start) rest ≡ rest = take_all _ _ (simp length-drop (omega arith)) in (
-      Some c.in-Some.place,
-      rw (← whole) (subst (λ (o : Option ℕ). IsOldestOf c.args.line (take (length c.args.lines.now - c.args.start) rest) o) c.in-Some.is c.oldest_of.ensures),
-      ap firsts_of (drop-set-add c.args.start c.args.keys.now c.in-Some.place _) ∙ map-set (λ (k : Key). k.first) (drop c.args.start c.args.keys.now) c.in-Some.place _,
-    )
+returns-in-Some-clause-marks c = (
+  Some c.in-Some.place,
+  oldest c.args.line c.args.keys.now.items c.as_slice.result.now c.oldest_of.result (Some c.in-Some.place) c.as_slice.ensures c.in-Some.is c.oldest_of.ensures,
+  ap (λ (l : Bounded Key). firsts_of l.items) c.set.ensures ∙ map-set (λ (k : Key). k.first) c.args.keys.now.items c.in-Some.place _,
+)
 
 pub returns-in-Some-clause-keys : goal.returns-in-Some-clause-keys
 returns-in-Some-clause-keys c pending are =
-    let there : c.in-Some.place < length (drop c.args.start c.args.keys.now) = omega (arith, length-drop c.args.start c.args.keys.now) in
-    rw (drop-set-add c.args.start c.args.keys.now c.in-Some.place _, ← get_or-drop c.args.start c.args.keys.now c.in-Some.place _) (keys_mark pending (drop c.args.start c.args.keys.now) c.in-Some.place _ there are)
+    let keys = c.args.keys.now.items in
+    let place = c.in-Some.place in
+    let none : Key = record { row = 0; line = 0; bank = 0; kind = Read; first = false; held = false } in
+    let key : Key = get_or c.as_slice-in-Some.result.now place none in
+    let (k, at, named, before) = oldest c.args.line keys c.as_slice.result.now c.oldest_of.result (Some place) c.as_slice.ensures c.in-Some.is c.oldest_of.ensures in
+    let there : place < length keys = slice_get_within keys place k at in
+    let read : key ≡ get_or keys place key = ap (λ (xs : List Key). get_or xs place none) c.as_slice-in-Some.ensures ∙ get_or_default keys place none key there in
+    rw c.set.ensures (keys_mark pending keys place key there read are)

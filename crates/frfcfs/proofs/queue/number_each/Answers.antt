@@ -1,6 +1,23 @@
-use Rattle.std.proofs.Common.{arith}
+use Rattle.std.proofs.Common.{◌≡◌, ◌<◌, ℕ, List, false, length, length-set, set, ap, ◌∙◌, arith, get_or}
+use Rattle.std.proofs.lemmas.List.{get_or_default}
+use Rattle.gap_list.specs.Bounded.{Bounded}
+use Rattle.frfcfs.proofs.Common.{Pending, Read}
 use Rattle.frfcfs.proofs.KeepLemmas.{number_more}
 use Rattle.frfcfs.proofs.queue.number_each.Goals as goal
 
 pub loop-place-preserved : goal.loop-place-preserved
-loop-place-preserved c = number_more c.args.pending.now c.loop-place.pending c.loop-place.place _ (omega (arith, c.loop-place-test.true, c.loop-place.auto.pending)) c.loop-place.invariant
+loop-place-preserved c =
+    let old = c.args.pending.now in
+    let ys = c.loop-place.pending.items in
+    let place = c.loop-place.place in
+    let (before, size) = c.loop-place.invariant in
+    let none : Pending = record { seq = 0; place = record { channel = 0; rank = 0; group = 0; bank = 0; row = 0; column = 0 }; line = 0; kind = Read; number = 0; held = false } in
+    let p : Pending = get_or c.as_slice.result.now place none in
+    let within : place < length old.items = omega (arith, c.loop-place-test.true, c.len-place-end.ensures) in
+    let there : place < length ys = omega (arith, within, size) in
+    let read : p ≡ get_or ys place p = ap (λ (items : List Pending). get_or items place none) c.as_slice.ensures ∙ get_or_default ys place none p there in
+    let more = number_more old.items ys place p within (ap (λ (l : Bounded Pending). l.items) before) read in
+    rw c.set.ensures (
+      ap (λ (most : ℕ). record { most = most; items = set ys place (record p { seq = place }) }) (ap (λ (l : Bounded Pending). l.most) before) ∙ ap (λ (items : List Pending). record { most = old.most; items = items }) more,
+      length-set ys place (record p { seq = place }) ∙ size,
+    )

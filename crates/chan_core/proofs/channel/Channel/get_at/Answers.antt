@@ -1,5 +1,6 @@
-use Rattle.std.proofs.Common.{refl, sym, arith}
-use Rattle.chan_core.proofs.Common.{contents_of}
+use Rattle.std.proofs.Common.{refl, sym, ap, arith}
+use Rattle.gap_list.specs.Bounded.{Bounded}
+use Rattle.chan_core.proofs.Common.{OpenRead, contents_of}
 use Rattle.chan_core.proofs.Fields.{fields_of}
 use Rattle.chan_core.proofs.Going.{running-few}
 use Rattle.chan_core.proofs.Holding.{few-pending, few-steps_begun, get-holds}
@@ -35,12 +36,12 @@ pub returns-in-None-clause-answers : goal.returns-in-None-clause-answers
 returns-in-None-clause-answers c =
     let free = rw (← c.self.view_is, ← c.self-inside.view_is) at (refuted c.is_full_of_reads.result c.is_full_of_reads.ensures c.if-is_full_of_reads.false) in
     let is = c.cell_of-cell.ensures in
-    let reads = rw c.next-seq.ensures at c.push_reserved.ensures.items in
+    let reads = rw c.next-seq.ensures at (ap (λ (l : Bounded OpenRead). l.items) c.push-in-None.ensures) in
     rw (← c.self.view_is, ← c.self-inside.view_is) (
       free,
       rw is.is at c.in-None.ensures,
       refl,
-      asks (contents_of (fields_of c.self-inside.invariant)) c.push.new.self c.push_reserved.new.self.items c.args.line c.args.at _ c.cell_of-cell.result c.self-inside.invariant.are is.within is.is c.in-None.ensures c.push.ensures.requests reads,
+      asks (contents_of (fields_of c.self-inside.invariant)) c.push.new.self c.push-in-None.new.self.items c.args.line c.args.at _ c.cell_of-cell.result c.self-inside.invariant.are is.within is.is c.in-None.ensures c.push.ensures.requests reads,
     )
 
 pub invariant_of-self-inside : goal.invariant_of-self-inside
@@ -49,9 +50,9 @@ invariant_of-self-inside c =
     let free = rw (← c.self.view_is, ← c.self-inside.view_is) at (refuted c.is_full_of_reads.result c.is_full_of_reads.ensures c.if-is_full_of_reads.false) in
     let lies = rw (← c.self.view_is, ← c.self-inside.view_is) at c.requires.lies_in in
     let channel = rw (← c.self.view_is, ← c.self-inside.view_is) at c.requires.here in
-    let reads = rw c.next-seq.ensures at c.push_reserved.ensures.items in
+    let reads = rw c.next-seq.ensures at (ap (λ (l : Bounded OpenRead). l.items) c.push-in-None.ensures) in
     record {
-      are = get-holds _ c.push.new.self c.push_reserved.new.self.items c.args.line c.args.at c.args.place c.cell_of-cell.result are c.push.ensures.next c.push.ensures.most c.push.ensures.requests reads c.in-None.ensures
+      are = get-holds _ c.push.new.self c.push-in-None.new.self.items c.args.line c.args.at c.args.place c.cell_of-cell.result are c.push.ensures.next c.push.ensures.most c.push.ensures.requests reads c.in-None.ensures
           (room-for-one (contents_of (fields_of c.self-inside.invariant)) _ refl are free) lies channel (sym c.cell_of-cell.ensures.is);
-      room_for_reads = omega (arith, c.self-inside.invariant.room_for_reads, c.push_reserved.ensures.capacity);
+      room_for_reads = omega (arith, c.self-inside.invariant.room_for_reads, ap (λ (l : Bounded OpenRead). l.most) c.push-in-None.ensures);
     }

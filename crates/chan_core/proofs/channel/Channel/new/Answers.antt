@@ -1,7 +1,8 @@
-use Rattle.std.proofs.Common.{refl, sym, subst, arith}
+use Rattle.std.proofs.Common.{refl, sym, subst, ap, arith}
+use Rattle.gap_list.specs.Bounded.{Bounded}
 use Rattle.line_memory.specs.Memory.{IsMemory}
 use Rattle.line_memory.proofs.MemoryLaws.{zero_lines-IsMemory}
-use Rattle.chan_core.proofs.Common.{last_clock}
+use Rattle.chan_core.proofs.Common.{OpenRead, last_clock}
 use Rattle.frfcfs.proofs.refreshes.MarginEnds.{new_keeps}
 use Rattle.chan_core.proofs.Holding.{new-holds}
 use Rattle.chan_core.proofs.Sleeping.{new-awake}
@@ -13,8 +14,8 @@ invariant_of-result c =
     record {
       are = rw queue.empty
           (new-holds _ (subst (IsMemory _) (sym c.in_ok-array.ensures) (rw (← c.cells.ensures.is) (zero_lines-IsMemory c.cells.result))) (rw queue.empty at queue.queue) refl c.in_ok-with_room.ensures
-          c.in_ok-with_capacity-2.ensures.items c.requires.reads refl);
-      room_for_reads = omega (arith, c.in_ok-with_capacity-2.ensures.capacity);
+          (ap (λ (l : Bounded OpenRead). l.items) c.in_ok-with_room-2.ensures) c.requires.reads refl);
+      room_for_reads = omega (arith, ap (λ (l : Bounded OpenRead). l.most) c.in_ok-with_room-2.ensures);
     }
 
 pub invariant_of-result-2 : goal.invariant_of-result-2

@@ -9,7 +9,7 @@ invariant_of-self c =
     let are = c.self.invariant.are in
     record {
       are = rw c.lose_reads.ensures.none (steps-hold s c.lose_reads.new.waiting are (rw (← c.self.view_is) at c.requires) (left s c.lose_reads.new.waiting are c.lose_reads.ensures.waiting));
-      room_for_reads = omega (arith, c.self.invariant.room_for_reads, c.lose_reads.ensures.capacity);
+      room_for_reads = omega (arith, c.self.invariant.room_for_reads, c.lose_reads.ensures.most);
     }
 
 pub returns : goal.returns

@@ -1,4 +1,5 @@
 use Rattle.std.proofs.Common.{◌≡◌, ◌∙◌, List, ap, subst, sym, ℕ}
+use Rattle.gap_list.specs.Bounded.{Bounded}
 use Rattle.frfcfs.specs.Queue.{Waiting}
 use Rattle.wpq_core.specs.Queue.{Queue}
 use Rattle.ddr4_timing.specs.declared.command.Stamped.{Stamped}
@@ -20,14 +21,14 @@ invariant_of-result c =
     record {
       are = subst AreContents
           (sym (same_contents m c.in_ok-array.array.items c.in_ok-queue.queue c.in_ok-waiting.waiting c.in_ok-reads.reads.items c.in_ok-issued.issued.items
-          (c.in_ok-array.ensures.items ∙ c.deref.ensures.value) c.in_ok-queue.ensures c.in_ok-waiting.ensures (c.in_ok-reads.ensures.items ∙ c.deref-2.ensures.value) (ap (λ trace. trace.items) c.in_ok-issued.ensures)))
+          (c.in_ok-array.ensures.items ∙ c.deref.ensures.value) c.in_ok-queue.ensures c.in_ok-waiting.ensures (ap (λ (l : Bounded OpenRead). l.items) c.in_ok-reads.ensures) (ap (λ trace. trace.items) c.in_ok-issued.ensures)))
           c.self.invariant.are;
-      room_for_reads = c.in_ok-reads.ensures.room;
+      room_for_reads = rw c.in_ok-reads.ensures c.self.invariant.room_for_reads;
     }
 
 pub returns : goal.returns
 returns c =
     let m = c.self.inside in
     ap seen (same_contents m c.in_ok-array.array.items c.in_ok-queue.queue c.in_ok-waiting.waiting c.in_ok-reads.reads.items c.in_ok-issued.issued.items
-    (c.in_ok-array.ensures.items ∙ c.deref.ensures.value) c.in_ok-queue.ensures c.in_ok-waiting.ensures (c.in_ok-reads.ensures.items ∙ c.deref-2.ensures.value) (ap (λ trace. trace.items) c.in_ok-issued.ensures))
+    (c.in_ok-array.ensures.items ∙ c.deref.ensures.value) c.in_ok-queue.ensures c.in_ok-waiting.ensures (ap (λ (l : Bounded OpenRead). l.items) c.in_ok-reads.ensures) (ap (λ trace. trace.items) c.in_ok-issued.ensures))
     ∙ c.self.view_is

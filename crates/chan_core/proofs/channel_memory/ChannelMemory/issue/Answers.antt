@@ -70,8 +70,11 @@ index-bytes-requires c =
     let eligible = chosen c.requests.ensures.value c.self.view_is c.in-Some.is c.requires _ in
     rw c.self.inside.array.ok.0 (line-within (contents_of c.self.inside) c.self.invariant.are c.in-Some.index _ eligible.here)
 
-pub answer-serial-requires : goal.answer-serial-requires
-answer-serial-requires c =
+pub answer-serial-requires-clause-rise : goal.answer-serial-requires-clause-rise
+answer-serial-requires-clause-rise c = c.self.invariant.are.reads.seqs
+
+pub answer-serial-requires-clause-waits : goal.answer-serial-requires-clause-waits
+answer-serial-requires-clause-waits c =
     let eligible = chosen c.requests.ensures.value c.self.view_is c.in-Some.is c.requires _ in
     let o = opened (contents_of c.self.inside) c.self.invariant.are c.in-Some.index _ eligible.here c.in-Read.is in (o.index, o.read, o.at, o.seq)
 
@@ -81,7 +84,7 @@ invariant_of-self-in-Read c =
     record {
       are = rw c.note.ensures.noted
           (read-holds (contents_of c.self.inside) c.take.new.self c.answer-serial.new.reads.items c.args.command c.in-Some.index _ _ c.answer-serial.result c.self.invariant.are eligible.here c.in-Read.is c.take.ensures.left c.answer-serial.ensures.answers);
-      room_for_reads = omega (arith, c.self.invariant.room_for_reads, c.answer-serial.ensures.capacity);
+      room_for_reads = omega (arith, c.self.invariant.room_for_reads, c.answer-serial.ensures.most);
     }
 
 pub returns-in-Read : goal.returns-in-Read

@@ -28,7 +28,7 @@ invariant_of-self c =
       are = rw (filled, c.lose_reads.ensures.none, c.note.ensures.noted)
           (alone-holds s c.args.command k c.args.phase c.store_by.new.array c.store_by.new.queue c.lose_reads.new.waiting c.store_by.new.waiting are (left s c.lose_reads.new.waiting are c.lose_reads.ensures.waiting) c.requires.single (one-write c.args.command.cmd) size
           (stored.whole (rw (← c.deref_mut.ensures.value) at are.array.whole)) stored.queue stored.waiting);
-      room_for_reads = omega (arith, c.self.invariant.room_for_reads, c.lose_reads.ensures.capacity);
+      room_for_reads = omega (arith, c.self.invariant.room_for_reads, c.lose_reads.ensures.most);
     }
 
 pub returns-clause-issues : goal.returns-clause-issues

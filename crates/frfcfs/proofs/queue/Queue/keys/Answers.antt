@@ -3,7 +3,7 @@ use Rattle.std.proofs.lemmas.Grind.{common_steps}
 use Rattle.frfcfs.proofs.queue.Queue.keys.Goals as goal
 
 pub returns-clause-keys : goal.returns-clause-keys
-returns-clause-keys c = grind (arith, common_steps, c.self.invariant.0.keyed)
+returns-clause-keys c = grind (arith, common_steps, c.self.invariant.keyed)
 
 pub returns-clause-firsts : goal.returns-clause-firsts
-returns-clause-firsts c = grind (arith, common_steps, c.self.invariant.0.marks)
+returns-clause-firsts c = grind (arith, common_steps, c.self.invariant.marks)

@@ -1,6 +1,11 @@
-use Rattle.std.proofs.Common.{List, ap}
+use Rattle.std.proofs.Common.{ap}
+use Rattle.gap_list.specs.Bounded.{Bounded}
 use Rattle.frfcfs.proofs.Common.{Pending}
+use Rattle.frfcfs.proofs.KeptRequests.{kept_none}
 use Rattle.frfcfs.proofs.queue.Queue.with_room.Goals as goal
 
+pub invariant_of-result : goal.invariant_of-result
+invariant_of-result c = rw (c.in_ok-with_room.ensures, c.in_ok-with_room-2.ensures) (kept_none c.args.most)
+
 pub returns : goal.returns
-returns c = ap (λ (requests : List Pending). record { most = c.args.most; next = 0; requests = requests }) c.in_ok-with_capacity.ensures.items
+returns c = ap (λ (l : Bounded Pending). record { most = l.most; next = 0; requests = l.items }) c.in_ok-with_room.ensures
