@@ -6,3 +6,6 @@ pub mod Reasons
 pub mod Tallies
 pub mod Faults
 pub mod Foreign
+pub mod Rows
+pub mod Traces
+pub mod Sources

@@ -1,8 +1,9 @@
 // The check of a trace, and the commands of a channel in a list.
-ghost use Rattle.std.specs.Prelude.{◌≡◌, ℕ, [], ◌∷◌, ◌++◌, ◌≤◌, ◌<◌, ◌^◌, List, length, slice_get, slice_index, take, Some, IfOk, OnOk};
+ghost use Rattle.std.specs.Prelude.{◌≡◌, ℕ, [], ◌∷◌, ◌++◌, ◌≤◌, ◌<◌, ◌^◌, List, Option, length, slice_get, slice_index, take, Some, IfOk, OnOk};
 ghost use Rattle.command_trace.specs.Channels.{FollowsAll, Lists, found_up_to, issued_to};
 ghost use Rattle.auto_precharge.specs.FullLists.{AreEarly};
 ghost use Rattle.command_trace.specs.Reasons.{IsReasonOf};
+ghost use Rattle.command_trace.specs.Traces.{AreCommandsOf, HasRead};
 ghost use Rattle.command_trace.specs.declared.entry.Located.{Located};
 
 use crate::entry::Located;
@@ -27,16 +28,19 @@ pub fn check_trace<R: Read + Drop>(
     requires fresh { reader.old.given.items ≡ [] }
     ensures follows { IfOk result (FollowsAll rules.now) }
     ensures whole { IfOk result (λ check. check.given.items ≡ reader.new.given.items) }
+    ensures reads { (bytes : Option (List ℕ)) → HasRead R.remaining bytes reader.old [] →
+        IfOk result (λ check. AreCommandsOf reader.old.form bytes check.given.items) }
 {
     let mut check = TraceCheck::new(rules);
     for _ in 0..u64::MAX {
         let Some(found) = reader.next()? else {
-            break;
+            return Ok(check);
         };
         // `is_lawful` and `are_lawful` of the check answer it in the end
         let _lawful = check.take(rules, &found);
     }
-    Ok(check)
+    // more commands than can be counted
+    Err(TraceFault::Reader)
 }
 
 /// The commands of one channel, and the line of each.

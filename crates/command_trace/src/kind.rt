@@ -1,7 +1,8 @@
 // The kinds of commands, by the names that traces give them.
-ghost use Rattle.std.specs.Prelude.{◌≡◌, ◌≢◌, ◌⊎◌, ◌↔◌, IsTrue, IfSome, IsNone};
+ghost use Rattle.std.specs.Prelude.{◌≡◌, ◌≢◌, ◌⊎◌, ◌↔◌, IsTrue, IfSome, IsNone, length};
 ghost use Rattle.ddr4_timing.specs.declared.command.Command.{Command};
 ghost use Rattle.command_trace.specs.Kinds.{base_of, closes_of, IsCommandOf, IsSpelling, IsWord, kind_of, name_of_kind, numbers_of};
+ghost use Rattle.command_trace.specs.Rows.{columns_left, count_of};
 ghost use Rattle.command_trace.specs.declared.kind.CommandKind.{CommandKind};
 
 use ddr4_timing::command::Command;
@@ -73,7 +74,9 @@ impl CommandKind {
     }
 
     /// The parts behind its name, as `CHANNEL CLOCK NAME` and these.
-    pub(crate) fn parts(self) -> &'static [&'static str] {
+    pub(crate) fn parts(self) -> &'static [&'static str]
+        ensures { length result.now ≡ count_of self }
+    {
         match self {
             CommandKind::Act => &["rank", "group", "bank", "row"],
             CommandKind::Rd | CommandKind::Wr | CommandKind::Rda | CommandKind::Wra => &[
@@ -101,16 +104,16 @@ impl CommandKind {
         }
     }
 
-    /// Does a command of this kind have the part that a table names in this column? They are the rank in column 3, the bank
-    /// group, the bank, the row and the column in 7.
-    pub(crate) fn has_part(self, place: usize) -> bool {
+    /// The columns of a table in which a command of this kind has no number. They are the rank in column 3, the bank group, the
+    /// bank, the row and the column in 7.
+    pub(crate) fn columns_left(self) -> &'static [usize]
+        ensures { result.now ≡ columns_left self }
+    {
         match self {
-            CommandKind::Act => 3 <= place && place <= 6,
-            CommandKind::Rd | CommandKind::Wr | CommandKind::Rda | CommandKind::Wra => {
-                3 <= place && place <= 5 || place == 7
-            }
-            CommandKind::Pre => 3 <= place && place <= 5,
-            CommandKind::PreAll | CommandKind::Ref | CommandKind::Sre => place == 3,
+            CommandKind::Act => &[7],
+            CommandKind::Rd | CommandKind::Wr | CommandKind::Rda | CommandKind::Wra => &[6],
+            CommandKind::Pre => &[6, 7],
+            CommandKind::PreAll | CommandKind::Ref | CommandKind::Sre => &[4, 5, 6, 7],
         }
     }
 

@@ -1,7 +1,14 @@
 // The commands of a trace, read as a stream.
-ghost use Rattle.std.specs.Prelude.{◌≡◌, [], ◌++◌, IfOk, IfSome};
+ghost use Rattle.std.specs.Prelude.{◌≡◌, ℕ, [], ◌++◌, IfOk, IfSome, List, Option, option_map};
+ghost use Rattle.std.specs.Fmt.{with_newline};
 ghost use Rattle.std.specs.Option.{option_to_list};
+ghost use Rattle.csv.specs.Reading.{reader_state, strip_bom};
+ghost use Rattle.csv.specs.Records.{fields_of};
+ghost use Rattle.csv.specs.declared.parser.State.TheVariants.{StartRecord};
 ghost use Rattle.command_trace.specs.Reading.{FitsChannels, IsFormWith};
+ghost use Rattle.command_trace.specs.Rows.{RowSays, words_of_row};
+ghost use Rattle.command_trace.specs.Traces.{HasRead, HasReadNext, ReadsRows, delimiter_of, rows_left};
+ghost use Rattle.command_trace.specs.declared.entry.Located.{Located};
 
 use crate::entry::Located;
 use crate::no_command::NoCommand;
@@ -23,6 +30,19 @@ pub enum Form {
     Table,
     /// Lines as others write them.
     Foreign(ForeignForm),
+}
+
+impl Form {
+    // The byte between two words. Where it is 0, a line is one field.
+    fn delimiter(&self) -> u8
+        ensures { result ≡ delimiter_of self.now }
+    {
+        match self {
+            Form::Lines { .. } => b' ',
+            Form::Table => b',',
+            Form::Foreign(_) => 0,
+        }
+    }
 }
 
 /// The first row of a table.
@@ -79,7 +99,12 @@ fn rows_of<R: Read + Drop>(
     alloc: Global,
     source: R,
     delimiter: u8,
-) -> csv::Reader<Chain<R, &'static [u8]>> {
+) -> csv::Reader<Chain<R, &'static [u8]>>
+    ensures reads { ReadsRows delimiter result }
+    ensures state { reader_state result ≡ StartRecord }
+    ensures source { rows_left R.remaining result
+        ≡ option_map strip_bom (with_newline (R.remaining source)) }
+{
     // behind the last line too stands an end of line, so that each row is the line before the reader's
     let ended = source.chain(b"\n".as_slice());
     ReaderBuilder::new()
@@ -116,16 +141,11 @@ impl<R: Read + Drop> TraceReader<R> {
         ensures form { result.form ≡ form }
         ensures channels { result.channels ≡ channels }
         ensures given { result.given.items ≡ [] }
+        ensures read { HasRead R.remaining (R.remaining source) result [] }
     {
-        let delimiter = match form {
-            Form::Lines { .. } => b' ',
-            Form::Table => b',',
-            // a line is one field then
-            Form::Foreign(_) => 0,
-        };
         TraceReader {
             alloc,
-            rows: rows_of(alloc, source, delimiter),
+            rows: rows_of(alloc, source, form.delimiter()),
             row: ByteRecord::new(alloc),
             form,
             channels,
@@ -139,7 +159,11 @@ impl<R: Read + Drop> TraceReader<R> {
     fn command_of_row(&mut self) -> Result<Option<Located>, TraceFault>
         ensures fits { IfOk result (λ found. IfSome found (λ l.
             FitsChannels self.old.channels l.entry)) }
+        ensures says { IfOk result (λ found. RowSays self.old.form self.old.has_header
+            (words_of_row (fields_of self.old.row)) found self.new.has_header) }
         ensures kept { (self.new.channels ≡ self.old.channels) × (self.new.given ≡ self.old.given) }
+        ensures form { self.new.form ≡ self.old.form }
+        ensures rows { self.new.rows ≡ self.old.rows }
     {
         if is_blank(&self.row) {
             return Ok(None);
@@ -150,15 +174,23 @@ impl<R: Read + Drop> TraceReader<R> {
             channels: self.channels,
         };
         match &self.form {
-            Form::Lines { others: true } if row.is_other() => Ok(None),
-            Form::Lines { .. } => row.command_of_line(),
-            Form::Table if self.has_header => row.command_in_table(),
-            Form::Table if row.is_header() => {
+            Form::Lines { others } => {
+                if *others && row.is_other() {
+                    return Ok(None);
+                }
+                Ok(Some(row.command_of_line()?))
+            }
+            Form::Table => {
+                if self.has_header {
+                    return Ok(Some(row.command_in_table()?));
+                }
+                if !row.is_header() {
+                    return Err(row.refused(NoCommand::Header));
+                }
                 self.has_header = true;
                 Ok(None)
             }
-            Form::Table => Err(row.refused(NoCommand::Header)),
-            Form::Foreign(form) => row.command_of_others(self.alloc, form),
+            Form::Foreign(form) => Ok(Some(row.command_of_others(self.alloc, form)?)),
         }
     }
 
@@ -169,8 +201,12 @@ impl<R: Read + Drop> TraceReader<R> {
         ensures fits { IfOk result (λ found. IfSome found (λ l.
             FitsChannels self.old.channels l.entry)) }
         ensures channels { self.new.channels ≡ self.old.channels }
+        ensures form { self.new.form ≡ self.old.form }
         ensures given { IfOk result (λ found. self.new.given.items
             ≡ self.old.given.items ++ option_to_list found) }
+        ensures reads { (bytes : Option (List ℕ)) (found : List Located) →
+            HasRead R.remaining bytes self.old found →
+            IfOk result (HasReadNext R.remaining bytes self.old.form self.new found) }
     {
         for _ in 0..u64::MAX {
             if !self.rows.read_byte_record(&mut self.row)? {
@@ -184,6 +220,7 @@ impl<R: Read + Drop> TraceReader<R> {
             }
             return read;
         }
-        Ok(None)
+        // more rows than can be counted
+        Err(TraceFault::Reader)
     }
 }

@@ -3,6 +3,7 @@ ghost use Rattle.std.specs.Prelude.{◌<◌, ◌↔◌, IfOk, IsNone};
 ghost use Rattle.command_trace.specs.Channels.{FollowsAll, issued_to};
 ghost use Rattle.auto_precharge.specs.FullLists.{AreEarly};
 ghost use Rattle.command_trace.specs.Reading.{IsFormWith};
+ghost use Rattle.command_trace.specs.Traces.{AreCommandsOf};
 ghost use Rattle.auto_precharge.specs.Unfolding.{IsLawfulTrace};
 
 use crate::diagnosis::{Diagnosis, Listed, check_trace, list_commands, list_issued};
@@ -28,6 +29,8 @@ pub enum Source<'a> {
 }
 
 impl Source<'_> {
+    ghost use Rattle.command_trace.specs.Sources.{bytes_of};
+
     /// The form of its trace. `others` says whether other lines of a run are passed over.
     pub fn form<R: Files + AllocGlobal>(&self, rt: &R, others: bool) -> Result<Form, TraceFault>
         ensures { IfOk result (IsFormWith others) }
@@ -38,14 +41,16 @@ impl Source<'_> {
         }
     }
 
-    /// Checks its trace. A line that is no command is refused by its number.
+    /// Checks the commands of its trace, whose form is this. A line that is no command is refused by its number.
     pub fn check<R: Files + AllocGlobal>(
         &self,
         rt: &R,
         form: Form,
         rules: &CommandRules,
     ) -> Result<TraceCheck, TraceFault>
-        ensures { IfOk result (FollowsAll rules.now) }
+        ensures follows { IfOk result (FollowsAll rules.now) }
+        ensures reads { IfOk result (λ check.
+            AreCommandsOf form (bytes_of self.now) check.given.items) }
     {
         match self {
             Source::File(name) => check_of(rt.alloc(), open(rt, name)?, form, rules),
@@ -135,7 +140,9 @@ fn check_of<S: Read + Drop>(
     form: Form,
     rules: &CommandRules,
 ) -> Result<TraceCheck, TraceFault>
-    ensures { IfOk result (FollowsAll rules.now) }
+    ensures follows { IfOk result (FollowsAll rules.now) }
+    ensures reads { IfOk result (λ check.
+        AreCommandsOf form (S.remaining trace) check.given.items) }
 {
     let mut reader = TraceReader::new(alloc, trace, form, rules.geometry.channels);
     check_trace(rules, &mut reader)
