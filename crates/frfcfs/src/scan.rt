@@ -188,7 +188,8 @@ pub(crate) fn find_soonest(
 ) -> Soonest
     requires { AreKeysIn banks.now.checked.geometry pending.now keys.now }
     ensures any { IsTrue result.any ↔ HasEligibleIn banks.now.checked.geometry pending.now }
-    ensures found { AreFound banks.now.checked.geometry pending.now now (limit_of last) result.bests }
+    ensures found { AreFound banks.now.checked.geometry pending.now now (limit_of last)
+        result.bests }
     ensures best { (list : List Stamped) → Stands banks.now list →
         AreBest banks.now.checked list pending.now now last (limit_of last) (length pending.now) result.bests }
 {
