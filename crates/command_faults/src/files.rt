@@ -13,9 +13,10 @@ use nv_profile::{
 };
 use profile_report::reasons;
 use std::alloc::{AllocError, Global};
-use std::fs::{self, File};
+use std::fs::{self, File, Metadata};
 use std::io::{Input, Read, Write};
 use std::os::unix::fs::MetadataExt;
+use std::path::Path;
 use std::rt::Files;
 
 /// Who gives the bytes that the words of the program name. Its type may say which ones; that of a real system claims nothing, since no
@@ -158,7 +159,7 @@ pub fn is_file<'a, R: Files>(rt: &R, name: &'a str) -> Result<bool, Failure<'a>>
 }
 
 /// Do two words name one file? A word names the same file as itself, and two others do where the system has them as one place: by
-/// another path, by a link, by a second name. A file that isn't there is named by its own word alone.
+/// another path, by a link, by a second name. Where neither is there, they do as one name in one folder.
 pub fn is_one_file<R: Files>(rt: &R, one: &str, other: &str) -> bool
     ensures { one.now ≡ other.now → IsTrue result }
 {
@@ -166,11 +167,36 @@ pub fn is_one_file<R: Files>(rt: &R, one: &str, other: &str) -> bool
         return true;
     }
     match (fs::metadata(rt, one), fs::metadata(rt, other)) {
-        // a system that numbers no files has 0 for each
-        (Ok(one), Ok(other)) => one.ino() != 0
-            && one.ino() == other.ino()
-            && one.dev() == other.dev(),
+        (Ok(one), Ok(other)) => is_one_node(&one, &other),
+        (Err(_), Err(_)) => is_one_place(rt, Path::new(one), Path::new(other)),
         _ => false,
+    }
+}
+
+// Is it one file of the system? A system that numbers no files has 0 for each.
+fn is_one_node(one: &Metadata, other: &Metadata) -> bool {
+    one.ino() != 0 && one.ino() == other.ino() && one.dev() == other.dev()
+}
+
+// Would two files that aren't there yet be one? They would by one name in one folder.
+fn is_one_place<R: Files>(rt: &R, one: Path<'_>, other: Path<'_>) -> bool {
+    if one.file_name() != other.file_name() {
+        return false;
+    }
+    match (
+        fs::metadata(rt, folder_of(one)),
+        fs::metadata(rt, folder_of(other)),
+    ) {
+        (Ok(one), Ok(other)) => is_one_node(&one, &other),
+        _ => false,
+    }
+}
+
+// The folder that a path is in: of a bare name the one that the program runs in.
+fn folder_of(path: Path<'_>) -> Path<'_> {
+    match path.parent() {
+        Some(folder) if !folder.as_str().is_empty() => folder,
+        _ => Path::new("."),
     }
 }
 
