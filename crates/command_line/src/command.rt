@@ -14,13 +14,13 @@ use crate::draw::draw;
 use crate::help::{complete, explain_word, tell_version};
 use crate::lint::lint;
 use crate::live::live;
-use crate::outlet::Outgoing;
+use crate::outlet::{Outgoing, explained};
 use crate::profile::explain;
 use crate::script::answer;
 use crate::store::show;
 use clap::error::ErrorKind;
 use clap::{ArgMatches, Error as UsageError};
-use command_faults::{Failure, FileHost, ProgramFault, Reason};
+use command_faults::{Failure, FileHost, ProgramFault};
 use command_help::known_terms;
 use command_words::parser;
 use live_store::Host;
@@ -77,18 +77,18 @@ where
     }
 }
 
-// The failure with its reason, which its writer has where standard output takes no more.
+// The failure with its reason, which the writer has where standard output takes no more.
 fn reasoned<'a, W: Outgoing>(failure: Failure<'a>, writer: &W) -> Failure<'a>
     ensures { result.fault ≡ failure.entry.fault }
 {
-    let reason = match (&failure.fault, writer.refusal()) {
-        (ProgramFault::File("-") | ProgramFault::Script(ScriptFault::Writer), Some(error)) =>
-            Reason::of_error(&error),
-        _ => None,
+    let is_of_output = match &failure.fault {
+        ProgramFault::File("-") | ProgramFault::Script(ScriptFault::Writer) => true,
+        _ => false,
     };
-    Failure {
-        fault: failure.fault,
-        reason: failure.reason.or(reason),
+    if is_of_output {
+        explained(failure, writer)
+    } else {
+        failure
     }
 }
 

@@ -8,6 +8,7 @@ ghost use Rattle.command_line.specs.Verbs.{profile_word, schedule_word};
 use crate::check::of_trace;
 use crate::command::word_or;
 use crate::forms::form_asked;
+use crate::outlet::{Outlet, explained};
 use crate::whole::told_whole;
 use clap::ArgMatches;
 use command_faults::{Failure, FileHost, ProgramFault, is_one_file, profile_of, rules_of};
@@ -246,10 +247,13 @@ fn put_picture<'a, R: Files + AllocGlobal, W: Write>(
         Ok(file) => file,
         Err(error) => return Err(Failure::of_file(name, &error)),
     };
-    let Ok(mut writer) = BufWriter::new(rt.alloc(), file) else {
+    let Ok(mut writer) = BufWriter::new(rt.alloc(), Outlet::new(file)) else {
         return Err(Failure::from(ProgramFault::Memory));
     };
-    write_picture(rt.alloc(), schedule, picture, name, &mut writer)
+    match write_picture(rt.alloc(), schedule, picture, name, &mut writer) {
+        Ok(()) => Ok(()),
+        Err(failure) => Err(explained(failure, &writer)),
+    }
 }
 
 // Writes a schedule as a picture to a writer, which has this name.

@@ -4,12 +4,27 @@ ghost use Rattle.std.specs.Io.{WritesAtMost};
 ghost use Rattle.std.specs.Io.KnownBytes.{Keeps, WriteAppends};
 ghost use Rattle.command_line.specs.Outlets.{IsNoted, IsNotedOf};
 
+use command_faults::{Failure, Reason};
 use std::io::{self, BufWriter, ErrorKind, Write};
 
 /// A writer that tells why it took no more.
 pub trait Outgoing: Write {
     /// Why the last call that failed did; None where none did.
     fn refusal(&self) -> Option<io::Error>;
+}
+
+/// The failure with its reason, which the writer has where it was the one that took no more.
+pub(crate) fn explained<'a, W: Outgoing>(failure: Failure<'a>, writer: &W) -> Failure<'a>
+    ensures { result.fault ≡ failure.entry.fault }
+{
+    let reason = match writer.refusal() {
+        Some(error) => Reason::of_error(&error),
+        None => None,
+    };
+    Failure {
+        fault: failure.fault,
+        reason: failure.reason.or(reason),
+    }
 }
 
 /// A writer that notes why a call was last refused, and whether one was since nobody reads any more: a pipe that its reader has

@@ -65,6 +65,70 @@ fn a_script_by_another_name(rt: HostRuntime) {
 }
 
 #[test]
+fn files_that_are_not_there_yet(rt: HostRuntime) {
+    let place = place(&rt, process::id(rt.process()));
+    let place = place.as_str();
+    make(&rt, place, "%script", b"mark\n");
+    let folder = named(&rt, place, "%folder");
+    fs::create_dir(&rt, folder.as_str()).expect(&rt, "a folder");
+    for name in ["%folder/new", "%folder/./new"] {
+        let words = [
+            "run",
+            "tiny",
+            "%script",
+            "--out",
+            "%folder/new",
+            "--commands",
+            name,
+        ];
+        let line = "--commands names the store";
+        ends(&rt, place, &words, ExitCode::from(2), line, "");
+        let words = [
+            "draw",
+            "tiny",
+            "%script",
+            "--svg",
+            "%folder/new",
+            "--vcd",
+            name,
+        ];
+        let line = "--vcd names the picture of --svg";
+        ends(&rt, place, &words, ExitCode::from(2), line, "");
+    }
+    let words = [
+        "draw",
+        "tiny",
+        "%script",
+        "--svg",
+        "%folder/new",
+        "--vcd",
+        "%folder/other",
+    ];
+    ends(&rt, place, &words, ExitCode::SUCCESS, "", "");
+    remove(&rt, place, "%folder/new");
+    remove(&rt, place, "%folder/other");
+    fs::remove_dir(&rt, folder.as_str()).expect(&rt, "a folder");
+    remove(&rt, place, "%script");
+}
+
+#[test]
+fn pictures_without_room(rt: HostRuntime) {
+    let place = place(&rt, process::id(rt.process()));
+    let place = place.as_str();
+    let writes = "write 0 11\nwork 0 9\n"
+        .repeat(rt.alloc(), 90)
+        .expect(&rt, "a text");
+    let script = format!(in rt.alloc(); "format\n{writes}").expect(&rt, "a text");
+    make(&rt, place, "%script", script.as_bytes());
+    let told = "file /dev/full\nthere is no room for it";
+    for option in ["--svg", "--vcd"] {
+        let words = ["draw", "tiny", "%script", option, "/dev/full", "--why"];
+        ends(&rt, place, &words, ExitCode::FAILURE, told, "");
+    }
+    remove(&rt, place, "%script");
+}
+
+#[test]
 fn files_of_later_lives(rt: HostRuntime) {
     let place = place(&rt, process::id(rt.process()));
     let place = place.as_str();
