@@ -5,3 +5,4 @@ pub mod OpenRows
 pub mod ToldLives
 pub mod FlawLemmas
 pub mod StoodFor
+pub mod Turns

@@ -8,3 +8,5 @@ pub mod Telling
 pub mod Range
 pub mod Flaws
 pub mod Traces
+pub mod Layouts
+pub mod Changes

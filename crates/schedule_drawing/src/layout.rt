@@ -1,6 +1,8 @@
 // The lanes of a picture, from above to below.
-ghost use Rattle.std.specs.Prelude.{◌≡◌, All, Contains, Some, IfOk, OnOk, slice_get};
+ghost use Rattle.std.specs.Prelude.{◌≡◌, ◌⊎◌, All, Contains, Some, IfOk, OnOk, count_by, slice_get};
 ghost use Rattle.schedule_drawing.specs.Drawing.{AreShown, shape_lane};
+ghost use Rattle.schedule_drawing.specs.Layouts.{AreNeeded, IsShownFor, is_kind_of, is_of_rank};
+ghost use Rattle.schedule_drawing.specs.declared.lanes.Lane.{Lane};
 
 use crate::lanes::{Lane, LaneKind};
 use crate::shapes::Shape;
@@ -26,6 +28,8 @@ fn add(lanes: &mut Vec<Lane>, lane: Lane) -> Result<(), AllocError>
     ensures there { OnOk result (Contains lanes.new.items lane) }
     ensures kept { (other : Lane) → Contains lanes.old.items other →
         Contains lanes.new.items other }
+    ensures only { (other : Lane) → Contains lanes.new.items other →
+        Contains lanes.old.items other ⊎ (lane ≡ other) }
 {
     if lanes.contains(&lane) {
         return Ok(());
@@ -39,6 +43,8 @@ fn add_all(lanes: &mut Vec<Lane>, shape: &Shape) -> Result<(), AllocError>
     ensures there { OnOk result (Contains lanes.new.items (shape_lane shape.now)) }
     ensures kept { (other : Lane) → Contains lanes.old.items other →
         Contains lanes.new.items other }
+    ensures only { (other : Lane) → Contains lanes.new.items other →
+        Contains lanes.old.items other ⊎ IsShownFor (shape_lane shape.now) other }
 {
     let lane = shape.lane();
     add(lanes, lane)?;
@@ -55,7 +61,8 @@ fn add_all(lanes: &mut Vec<Lane>, shape: &Shape) -> Result<(), AllocError>
 impl Layout {
     /// Of the lanes that shapes stand in, with the ranks of their banks and the buses of their channels.
     pub fn of(alloc: Global, shapes: &[Shape]) -> Result<Layout, AllocError>
-        ensures { IfOk result (λ layout. AreShown layout.lanes.items shapes.now) }
+        ensures shown { IfOk result (λ layout. AreShown layout.lanes.items shapes.now) }
+        ensures needed { IfOk result (λ layout. AreNeeded layout.lanes.items shapes.now) }
     {
         let mut lanes = Vec::new(alloc);
         for shape in shapes {
@@ -79,17 +86,23 @@ impl Layout {
     }
 
     /// How many lanes a rank has with those of its banks.
-    pub fn rank_lanes(&self, channel: u64, rank: u64) -> usize {
+    pub fn rank_lanes(&self, channel: u64, rank: u64) -> usize
+        ensures { result ≡ count_by (is_of_rank channel rank) self.now.lanes.items }
+    {
         self.lanes
             .iter()
-            .filter(|lane| {
-                lane.channel == channel
-                    && match lane.kind {
-                        LaneKind::Rank { rank: other } => other == rank,
-                        LaneKind::Bank { at } => at.rank == rank,
-                        LaneKind::Bus => false,
-                    }
-            })
+            .filter(|lane| lane.channel == channel && is_kind_of(rank, &lane.kind))
             .count()
+    }
+}
+
+// Is it the lane of a rank, or of a bank of it?
+fn is_kind_of(rank: u64, kind: &LaneKind) -> bool
+    ensures { result ≡ is_kind_of rank kind.now }
+{
+    match kind {
+        LaneKind::Rank { rank: other } => *other == rank,
+        LaneKind::Bank { at } => at.rank == rank,
+        LaneKind::Bus => false,
     }
 }

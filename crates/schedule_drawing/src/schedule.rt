@@ -124,7 +124,9 @@ impl Schedule {
     }
 
     /// Is a clock shown?
-    pub(crate) fn shows(&self, clock: u64) -> bool {
+    pub(crate) fn shows(&self, clock: u64) -> bool
+        ensures { result ≡ is_within self.now.first self.now.last clock }
+    {
         self.first <= clock && clock <= self.last
     }
 

@@ -1,4 +1,7 @@
 // A schedule as VCD, the form of value changes over time that GTKWave reads.
+ghost use Rattle.std.specs.Prelude.{◌≡◌, IfOk};
+ghost use Rattle.schedule_drawing.specs.Changes.{AreChangesOf, IsBegin, IsEnd, told_lane};
+
 use crate::fault::DrawFault;
 use crate::lanes::{Lane, LaneKind};
 use crate::layout::Layout;
@@ -41,47 +44,59 @@ impl Change {
     }
 }
 
-// The two changes of a shape, where it begins and where it ends.
-fn changes_of_shape(layout: &Layout, shape: &Shape) -> [Change; 2] {
-    let place = match *shape {
-        Shape::Mark { lane, .. } => layout.place(&Lane::of_bus(lane.channel)),
-        _ => layout.place(&shape.lane()),
+// The lane of which a shape's variable is: a command's is its channel's.
+fn told_lane(shape: &Shape) -> Lane
+    ensures { result ≡ told_lane shape.now }
+{
+    match *shape {
+        Shape::Mark { lane, .. } => Lane::of_bus(lane.channel),
+        Shape::Row { lane, .. } | Shape::Data { lane, .. } | Shape::Refresh { lane, .. } => lane,
+    }
+}
+
+// Where a shape begins.
+fn change_begun(layout: &Layout, shape: &Shape) -> Change
+    ensures { IsBegin layout.now.lanes.items shape.now result }
+{
+    let value = match *shape {
+        Shape::Mark { command, .. } => Value::Command(Some(command)),
+        Shape::Row { row, .. } => Value::Row(Some(row)),
+        Shape::Data { command, .. } => Value::Data(Some(command)),
+        Shape::Refresh { .. } => Value::Refresh(true),
     };
-    let (from, to, begun, ended) = match *shape {
-        Shape::Mark { clock, command, .. } => (
-            clock,
-            clock.saturating_add(1),
-            Value::Command(Some(command)),
-            Value::Command(None),
-        ),
-        Shape::Row { row, from, to, .. } => (from, to, Value::Row(Some(row)), Value::Row(None)),
-        Shape::Data {
-            from,
-            to,
-            command,
-            ..
-        } => (from, to, Value::Data(Some(command)), Value::Data(None)),
-        Shape::Refresh { from, to, .. } => (from, to, Value::Refresh(true), Value::Refresh(false)),
+    Change {
+        clock: shape.from(),
+        place: layout.place(&told_lane(shape)),
+        value,
+    }
+}
+
+// Where a shape ends; a command is there for a clock.
+fn change_ended(layout: &Layout, shape: &Shape) -> Change
+    ensures { IsEnd layout.now.lanes.items shape.now result }
+{
+    let (clock, value) = match *shape {
+        Shape::Mark { clock, .. } => (clock.saturating_add(1), Value::Command(None)),
+        Shape::Row { to, .. } => (to, Value::Row(None)),
+        Shape::Data { to, .. } => (to, Value::Data(None)),
+        Shape::Refresh { to, .. } => (to, Value::Refresh(false)),
     };
-    [
-        Change {
-            clock: from,
-            place,
-            value: begun,
-        },
-        Change {
-            clock: to,
-            place,
-            value: ended,
-        },
-    ]
+    Change {
+        clock,
+        place: layout.place(&told_lane(shape)),
+        value,
+    }
 }
 
 // The changes of shapes in the order of their clocks; at one clock what ends goes first.
-fn changes_of(alloc: Global, layout: &Layout, shapes: &[Shape]) -> Result<Vec<Change>, AllocError> {
+fn changes_of(alloc: Global, layout: &Layout, shapes: &[Shape]) -> Result<Vec<Change>, AllocError>
+    ensures { IfOk result (λ changes.
+        AreChangesOf layout.now.lanes.items shapes.now changes.items) }
+{
     let mut changes = Vec::new(alloc);
     for shape in shapes {
-        changes.extend_from_slice(&changes_of_shape(layout, shape))?;
+        changes.push(change_begun(layout, shape))?;
+        changes.push(change_ended(layout, shape))?;
     }
     changes.sort_by_key(|change: &Change| (change.clock, change.begins()))?;
     Ok(changes)
