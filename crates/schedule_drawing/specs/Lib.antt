@@ -4,6 +4,7 @@ pub mod Drawing
 pub mod OpenRows
 pub mod Lives
 pub mod Schedules
+pub mod Events
 pub mod Telling
 pub mod Range
 pub mod Flaws

@@ -1,5 +1,5 @@
 -- The schedule that the answers of a script tell.
-use Rattle.std.specs.Prelude.{◌≡◌, ℕ, Bool, true, false, List, [], ◌∷◌, map, take, drop, filter_map, All, AllPairs, Option, Some, None}
+use Rattle.std.specs.Prelude.{◌≡◌, ℕ, Bool, true, false, List, [], ◌∷◌, map, take, drop, filter_map, All, AllPairs}
 use Rattle.std.specs.List.{flat_map}
 use Rattle.ddr4_timing.specs.declared.timing.Timing.{Timing}
 use Rattle.command_trace.specs.declared.entry.ChannelCommand.{ChannelCommand}
@@ -8,13 +8,8 @@ use Rattle.nv_script.specs.declared.answer.Answer.TheVariants as answer
 use Rattle.schedule_drawing.specs.declared.schedule.Schedule.{Schedule}
 use Rattle.schedule_drawing.specs.declared.shapes.Shape.{Shape}
 use Rattle.schedule_drawing.specs.Drawing.{drawn, later}
+use Rattle.schedule_drawing.specs.Events.{EventPlace, entry_told, event_place, events_told}
 use Rattle.schedule_drawing.specs.Lives.{EndBy, latest_clock}
-
--- the command that an answer tells, of a life whose clocks begin with this one
-abbrev pub entry_told : ℕ → Answer → Option ChannelCommand
-entry_told begin (answer.Issued channel command) =
-    Some (record { channel = channel; command = record { clock = later begin command.clock; cmd = command.cmd } })
-entry_told begin other = None
 
 -- whether a life begins with an answer
 abbrev pub begins_life : Answer → Bool
@@ -43,12 +38,16 @@ entries_told life = filter_map (entry_told life.begin) life.answers
 abbrev pub life_drawn : Timing → ToldLife → List Shape
 life_drawn t life = drawn t (later (latest_clock life.begin (entries_told life)) 20) (entries_told life)
 
+-- its events
+abbrev pub life_events : ToldLife → List EventPlace
+life_events life = events_told life.begin life.begin life.answers
+
 -- no shape of a life ends behind the begin of another
 abbrev pub BeginsBehind : Timing → ToldLife → ToldLife → Type 0
 BeginsBehind t life next = EndBy next.begin (life_drawn t life)
 
 -- Of answers each life is drawn, from clock 0 on, each behind all that is drawn of those before it: each command that they
--- tell, and what is drawn from it on. What stands before the first formatting is drawn as a life too.
+-- tell, and what is drawn from it on; and its events in their turn. What stands before the first formatting is drawn as a life too.
 pub record TellsAll (t : Timing) (answers : List Answer) (schedule : Schedule) : Type 0 where
   pub lives : List ToldLife
   pub answers_are : answers ≡ flat_map (λ life. life.answers) lives
@@ -58,3 +57,4 @@ pub record TellsAll (t : Timing) (answers : List Answer) (schedule : Schedule) :
   pub behind : AllPairs (BeginsBehind t) lives
   pub begins : schedule.begins.items ≡ map (λ life. life.begin) lives
   pub shapes : schedule.shapes.items ≡ flat_map (life_drawn t) lives
+  pub events : map event_place schedule.events.items ≡ flat_map life_events lives

@@ -77,6 +77,7 @@ impl Schedule {
     pub fn new(alloc: Global) -> Schedule
         ensures shapes { result.shapes.items ≡ [] }
         ensures begins { result.begins.items ≡ [] }
+        ensures events { result.events.items ≡ [] }
         ensures flaws { result.flaws.items ≡ [] }
     {
         Schedule {
@@ -112,6 +113,7 @@ impl Schedule {
         entries: &[ChannelCommand],
     ) -> Result<(), AllocError>
         ensures life { OnOk result (AddsLife t.now begin entries.now self.old self.new) }
+        ensures events { self.new.events ≡ self.old.events }
         ensures flaws { self.new.flaws ≡ self.old.flaws }
     {
         let open_until = last_of(begin, entries).saturating_add(TAIL);

@@ -1,5 +1,7 @@
 // The schedule that the answers of a script tell.
-ghost use Rattle.std.specs.Prelude.{◌≡◌, ◌<◌, ◌≤◌, false, length, take, drop, filter_map, All, IfOk, OnOk};
+ghost use Rattle.std.specs.Prelude.{◌≡◌, ◌<◌, ◌≤◌, ◌++◌, false, length, map, take, drop, filter_map, All, IfOk, OnOk};
+ghost use Rattle.std.specs.Option.{option_map};
+ghost use Rattle.schedule_drawing.specs.Events.{clock_behind, event_place, events_told, kind_of, mode_of, places_told};
 ghost use Rattle.schedule_drawing.specs.Schedules.{AddsLife};
 ghost use Rattle.schedule_drawing.specs.Telling.{IsOneLife, StartsLife, TellsAll, begins_life};
 
@@ -20,7 +22,7 @@ fn is_beginning(answer: &Answer) -> bool
 
 // The command that an answer tells, of a life whose clocks begin with this one.
 fn entry_told(begin: u64, answer: &Answer) -> Option<ChannelCommand>
-    ensures { result ≡ Rattle.schedule_drawing.specs.Telling.entry_told begin answer.now }
+    ensures { result ≡ Rattle.schedule_drawing.specs.Events.entry_told begin answer.now }
 {
     match *answer {
         Answer::Issued { channel, command } => Some(ChannelCommand {
@@ -41,7 +43,7 @@ fn entries_told(
     answers: &[Answer],
 ) -> Result<Vec<ChannelCommand>, AllocError>
     ensures { IfOk result (λ entries. entries.items
-        ≡ filter_map (Rattle.schedule_drawing.specs.Telling.entry_told begin) answers.now) }
+        ≡ filter_map (Rattle.schedule_drawing.specs.Events.entry_told begin) answers.now) }
 {
     let mut entries = Vec::new(alloc);
     let mut left = answers;
@@ -75,7 +77,9 @@ fn life_length(answers: &[Answer]) -> usize
 }
 
 // The lane of events in which an answer stands, where it stands in one.
-fn kind_of(answer: &Answer) -> Option<EventKind> {
+fn kind_of(answer: &Answer) -> Option<EventKind>
+    ensures { result ≡ kind_of answer.now }
+{
     match answer {
         Answer::Formatted | Answer::Restored { .. } => Some(EventKind::Device),
         Answer::Lost(Loss::Saved { .. } | Loss::Fault) => Some(EventKind::Device),
@@ -89,12 +93,46 @@ fn kind_of(answer: &Answer) -> Option<EventKind> {
 }
 
 // The mode that begins with an answer of the device.
-fn mode_of(answer: &Answer) -> Option<&'static str> {
+fn mode_of(answer: &Answer) -> Option<&'static str>
+    ensures { option_map (λ word. word.now) result ≡ mode_of answer.now }
+{
     match answer {
         Answer::Formatted | Answer::Restored { .. } => Some("disarmed"),
         Answer::Lost(Loss::Saved { .. } | Loss::Fault) => Some("mains lost"),
         _ => None,
     }
+}
+
+// The last clock of the commands that were told, with the one that an answer tells.
+fn clock_behind(begin: u64, clock: u64, answer: &Answer) -> u64
+    ensures { result ≡ clock_behind begin clock answer.now }
+{
+    match entry_told(begin, answer) {
+        Some(entry) => clock.max(entry.command.clock),
+        None => clock,
+    }
+}
+
+// The events that an answer tells at a clock: the answer in its lane, and the mode that begins with it.
+fn tell_answer(
+    alloc: Global,
+    events: &mut Vec<ScheduleEvent>,
+    clock: u64,
+    answer: &Answer,
+) -> Result<(), AllocError>
+    ensures { OnOk result (map event_place events.new.items
+        ≡ map event_place events.old.items ++ places_told clock answer.now) }
+{
+    if let Some(kind) = kind_of(answer) {
+        let text = format!(in alloc; "{answer}")?;
+        events.push(ScheduleEvent { clock, kind, text })?;
+    }
+    if let Some(mode) = mode_of(answer) {
+        let text = mode.to_string(alloc)?;
+        let kind = EventKind::Mode;
+        events.push(ScheduleEvent { clock, kind, text })?;
+    }
+    Ok(())
 }
 
 // The events that answers of a life tell: each behind the commands that were told before it.
@@ -103,21 +141,16 @@ fn tell_events(
     events: &mut Vec<ScheduleEvent>,
     begin: u64,
     answers: &[Answer],
-) -> Result<(), AllocError> {
+) -> Result<(), AllocError>
+    ensures { OnOk result (map event_place events.new.items
+        ≡ map event_place events.old.items ++ events_told begin begin answers.now) }
+{
     let mut clock = begin;
-    for answer in answers {
-        if let Some(entry) = entry_told(begin, answer) {
-            clock = clock.max(entry.command.clock);
-        }
-        if let Some(kind) = kind_of(answer) {
-            let text = format!(in alloc; "{answer}")?;
-            events.push(ScheduleEvent { clock, kind, text })?;
-        }
-        if let Some(mode) = mode_of(answer) {
-            let text = mode.to_string(alloc)?;
-            let kind = EventKind::Mode;
-            events.push(ScheduleEvent { clock, kind, text })?;
-        }
+    let mut left = answers;
+    while let [answer, behind @ ..] = left {
+        clock = clock_behind(begin, clock, answer);
+        tell_answer(alloc, events, clock, answer)?;
+        left = behind;
     }
     Ok(())
 }
@@ -130,9 +163,11 @@ fn tell_life(
     begin: u64,
     answers: &[Answer],
 ) -> Result<(), AllocError>
-    ensures { OnOk result (AddsLife t.now begin
-        (filter_map (Rattle.schedule_drawing.specs.Telling.entry_told begin) answers.now)
+    ensures life { OnOk result (AddsLife t.now begin
+        (filter_map (Rattle.schedule_drawing.specs.Events.entry_told begin) answers.now)
         schedule.old schedule.new) }
+    ensures events { OnOk result (map event_place schedule.new.events.items
+        ≡ map event_place schedule.old.events.items ++ events_told begin begin answers.now) }
 {
     let entries = entries_told(alloc, begin, answers)?;
     schedule.add(alloc, t, begin, &entries)?;

@@ -1,6 +1,6 @@
 use Rattle.std.proofs.Common.{◌≡◌, ◌++◌, length}
 use Rattle.std.specs.Prelude.{filter_map}
-use Rattle.schedule_drawing.specs.Telling.{entry_told}
+use Rattle.schedule_drawing.specs.Events.{entry_told}
 use Rattle.schedule_drawing.proofs.telling.entries_told.Given as goal
 
 abbrev pub invariant-loop-left : goal.invariant-loop-left
