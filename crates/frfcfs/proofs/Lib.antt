@@ -6,6 +6,7 @@ pub mod HitLemmas
 pub mod BestRequests
 pub mod ScanLemmas
 pub mod ScanOthers
+pub mod BankBits
 pub mod RankOffers
 pub mod NextChoice
 pub mod ChoiceLaws

@@ -180,6 +180,7 @@ scan_skip c list pending now last limit index request scan el has met before = r
     | inr g ↦ inl (there i q less e g)
   ];
   noted = before.noted;
+  earlier = λ n h. let l = before.earlier n h in omega (arith, l);
 }
   where
     passed : IsPassed c list pending now last limit scan (bank_at request.place) request.kind
@@ -193,12 +194,12 @@ scan_skip c list pending now last limit index request scan el has met before = r
 
 -- One that is offered its command marks its bank and kind.
 scan_met : (c : Checked) (list : List Stamped) (pending : List Pending) (now last limit index mark : ℕ) (request : Pending) (old new : Scan) → IsEligible pending index request → HasBank c.geometry (bank_at request.place) →
-    mark ≡ flag_of (bank_index (bank_at request.place)) request.kind → length old.met ≡ 128 → new.met ≡ set old.met mark true → new.others ≡ old.others → (¬ IsOtherOpen list request.place) →
+    mark ≡ flag_of (bank_index (bank_at request.place)) request.kind → length old.met ≡ 128 → new.met ≡ set old.met mark true → new.wanting ≡ old.wanting → new.others ≡ old.others → (¬ IsOtherOpen list request.place) →
     IsBest (Takes (WantsColumn list) c list pending last) now limit (index + 1) new.bests.column → IsBest (Takes (WantsAct list) c list pending last) now limit (index + 1) new.bests.row →
     new.bests.column.clock ≤ old.bests.column.clock → new.bests.row.clock ≤ old.bests.row.clock →
     IsNoSooner (WantsColumn list) c list pending now last limit (bank_at request.place) request.kind new.bests.column.clock → IsNoSooner (WantsAct list) c list pending now last limit (bank_at request.place) request.kind new.bests.row.clock →
     AreScanned c list pending now last limit index old → AreScanned c list pending now last limit (index + 1) new
-scan_met c list pending now last limit index mark request old new el has at size met others meets column act columns rows late_column late_act before = record {
+scan_met c list pending now last limit index mark request old new el has at size met wanting others meets column act columns rows late_column late_act before = record {
   column = column;
   act = act;
   passed = passed;
@@ -209,11 +210,12 @@ scan_met c list pending now last limit index mark request old new el has at size
   others = λ i q less e lies other. elim (cases_lt i index) [
     | inl l ↦ elim (before.others i q l e lies other) [
       | inl m ↦ inl (kept (bank_at q.place) q.kind m)
-      | inr le ↦ inr (rw others le)
+      | inr was ↦ inr (rw (wanting, others) was)
     ]
     | inr g ↦ inl (here i q less e g)
   ];
-  noted = rw others before.noted;
+  noted = rw (wanting, others) before.noted;
+  earlier = rw (wanting, others) (λ n h. let l = before.earlier n h in omega (arith, l));
 }
   where
     small : mark < 128
@@ -239,10 +241,10 @@ scan_met c list pending now last limit index mark request old new el has at size
 -- the ACT of one whose bank is closed
 pub scan_act : (c : Checked) (list : List Stamped) (pending : List Pending) (now last limit index mark least from end : ℕ) (request : Pending) (cmd : Command) (old new : Scan) → IsLawful c list → LiesIn c.geometry request.place → IsEligible pending index request →
     IsEnd c list request.place.rank last end → end ≤ limit → open_row (bank_at request.place) list ≡ None → cmd ≡ act_of request.place → least ≡ least_clock c.timing list cmd → from ≡ max least now → IsBetter old.bests.row index from end new.bests.row →
-    new.bests.column ≡ old.bests.column → mark ≡ flag_of (bank_index (bank_at request.place)) request.kind → length old.met ≡ 128 → new.met ≡ set old.met mark true → new.others ≡ old.others →
+    new.bests.column ≡ old.bests.column → mark ≡ flag_of (bank_index (bank_at request.place)) request.kind → length old.met ≡ 128 → new.met ≡ set old.met mark true → new.wanting ≡ old.wanting → new.others ≡ old.others →
     AreScanned c list pending now last limit index old → AreScanned c list pending now last limit (index + 1) new
-scan_act c list pending now last limit index mark least from end request cmd old new lawful lies el ends early closed is clock start better column at size met others before =
-    scan_met c list pending now last limit index mark request old new el has at size met others (λ other. cc (closed, other.1))
+scan_act c list pending now last limit index mark least from end request cmd old new lawful lies el ends early closed is clock start better column at size met wanting others before =
+    scan_met c list pending now last limit index mark request old new el has at size met wanting others (λ other. cc (closed, other.1))
     (rw column (class_skip (WantsColumn list) c list pending now last limit index request old.bests.column el (λ x wants _. absurd (cc (closed, wants.0))) before.column))
     (class_offer (WantsAct list) c list pending now last limit index end least from request cmd old.bests.row new.bests.row lawful (wishes_closed c list request cmd is closed (rw is (has, lies.row))) el ends early clock start better before.act)
     (omega (arith, ap (λ (x : Best). x.clock) column)) (offer_less old.bests.row new.bests.row index from end better)
@@ -257,10 +259,10 @@ scan_act c list pending now last limit index mark least from end request cmd old
 -- the RD or WR of one whose row is open
 pub scan_column : (c : Checked) (list : List Stamped) (pending : List Pending) (now last limit index mark least from end : ℕ) (request : Pending) (cmd : Command) (old new : Scan) → IsLawful c list → LiesIn c.geometry request.place → IsEligible pending index request →
     IsEnd c list request.place.rank last end → end ≤ limit → open_row (bank_at request.place) list ≡ Some request.place.row → cmd ≡ column_of request.kind request.place → IsInGeometry c.geometry cmd → least ≡ least_clock c.timing list cmd → from ≡ max least now →
-    IsBetter old.bests.column index from end new.bests.column → new.bests.row ≡ old.bests.row → mark ≡ flag_of (bank_index (bank_at request.place)) request.kind → length old.met ≡ 128 → new.met ≡ set old.met mark true → new.others ≡ old.others →
+    IsBetter old.bests.column index from end new.bests.column → new.bests.row ≡ old.bests.row → mark ≡ flag_of (bank_index (bank_at request.place)) request.kind → length old.met ≡ 128 → new.met ≡ set old.met mark true → new.wanting ≡ old.wanting → new.others ≡ old.others →
     AreScanned c list pending now last limit index old → AreScanned c list pending now last limit (index + 1) new
-scan_column c list pending now last limit index mark least from end request cmd old new lawful lies el ends early opened is place clock start better row at size met others before =
-    scan_met c list pending now last limit index mark request old new el has at size met others (λ other. other.2 (cc (opened, other.1)))
+scan_column c list pending now last limit index mark least from end request cmd old new lawful lies el ends early opened is place clock start better row at size met wanting others before =
+    scan_met c list pending now last limit index mark request old new el has at size met wanting others (λ other. other.2 (cc (opened, other.1)))
     (class_offer (WantsColumn list) c list pending now last limit index end least from request cmd old.bests.column new.bests.column lawful (wishes_column c list request cmd is opened place) el ends early clock start better before.column)
     (rw row (class_skip (WantsAct list) c list pending now last limit index request old.bests.row el (λ x wants _. absurd (cc (opened, wants.0))) before.act))
     (offer_less old.bests.column new.bests.column index from end better) (omega (arith, ap (λ (x : Best). x.clock) row))

@@ -4,5 +4,6 @@ pub mod Queue
 pub mod Candidates
 pub mod Next
 pub mod Search
+pub mod BankSets
 pub mod Scan
 pub mod Margin

@@ -1,5 +1,5 @@
 -- What the one look at each request of a queue has found.
-use Rattle.std.specs.Prelude.{◌≡◌, ℕ, ◌+◌, ◌*◌, ◌<◌, ◌≤◌, ◌⊎◌, false, IsTrue, List, length, slice_index, slice_index_or, None, Some}
+use Rattle.std.specs.Prelude.{◌≡◌, ℕ, ◌+◌, ◌*◌, ◌<◌, ◌≤◌, ◌⊎◌, false, IsTrue, List, slice_index, slice_index_or, None, Some}
 use Rattle.ddr4_timing.specs.declared.command.Command.{Command}
 use Rattle.ddr4_timing.specs.declared.command.Stamped.{Stamped}
 use Rattle.ddr4_timing.specs.declared.place.BankAddress.{BankAddress}
@@ -7,11 +7,13 @@ use Rattle.ddr4_timing.specs.declared.timing.Checked.{Checked}
 use Rattle.ddr4_timing.specs.declared.timing.Geometry.{Geometry}
 use Rattle.ddr4_timing.specs.Lawful.{open_row}
 use Rattle.ddr4_timing.specs.Places.{HasBank, bank_at, bank_index}
+use Rattle.frfcfs.specs.declared.bank_set.BankSet.{BankSet}
 use Rattle.frfcfs.specs.declared.best.Best.{Best}
 use Rattle.frfcfs.specs.declared.pending.Kind.{Kind}
 use Rattle.frfcfs.specs.declared.pending.Kind.TheVariants.{Read, Write}
 use Rattle.frfcfs.specs.declared.pending.Pending.{Pending}
 use Rattle.frfcfs.specs.declared.scan.Scan.{Scan}
+use Rattle.frfcfs.specs.BankSets.{Has}
 use Rattle.frfcfs.specs.Requests.{IsEligible, act_of, pre_of}
 use Rattle.frfcfs.specs.Candidates.{IsOtherOpen, IsUnhit, MayHave, WantsColumn}
 use Rattle.frfcfs.specs.Search.{AreFound, IsBest, IsEligibleIn, Takes}
@@ -29,11 +31,11 @@ IsMet scan bank kind = IsTrue (slice_index_or scan.met (flag_of (bank_index bank
 abbrev pub WantsAct : List Stamped → Pending → Command → Type 0
 WantsAct list p cmd = (open_row (bank_at p.place) list ≡ None) × (cmd ≡ act_of p.place)
 
--- The same, or PRE where another row is open and no eligible request hits that row, of a bank below an index.
-abbrev pub WantsRowBelow : List Stamped → List Pending → ℕ → Pending → Command → Type 0
-WantsRowBelow list pending end p cmd =
+-- The same, or PRE where another row is open and no eligible request hits that row, but of the banks that are left.
+abbrev pub WantsRowBut : List Stamped → List Pending → BankSet → Pending → Command → Type 0
+WantsRowBut list pending left p cmd =
     WantsAct list p cmd
-    ⊎ (IsOtherOpen list p.place × IsUnhit list pending (bank_at p.place) × (cmd ≡ pre_of p.place) × (bank_index (bank_at p.place) < end))
+    ⊎ (IsOtherOpen list p.place × IsUnhit list pending (bank_at p.place) × (cmd ≡ pre_of p.place) × ¬ Has left (bank_index (bank_at p.place)))
 
 -- From now on no eligible request of the bank and the kind may have a command that it wants before the clock.
 abbrev pub IsNoSooner : (Pending → Command → Type 0) → Checked → List Stamped → List Pending → ℕ → ℕ → ℕ → BankAddress → Kind → ℕ → Type 0
@@ -61,17 +63,16 @@ pub record AreScanned (c : Checked) (list : List Stamped) (pending : List Pendin
       → open_row (bank_at request.place) list ≡ Some request.place.row → IsMet scan (bank_at request.place) request.kind
   pub others : (index : ℕ) (request : Pending) → index < end → IsEligible pending index request → HasBank c.geometry (bank_at request.place)
       → IsOtherOpen list request.place
-      → IsMet scan (bank_at request.place) request.kind ⊎ (slice_index scan.others (bank_index (bank_at request.place)) ≤ index)
-  pub noted : (bank : ℕ) (request : Pending) → bank < 64 → slice_index scan.others bank < length pending
-      → IsEligible pending (slice_index scan.others bank) request → IsOtherOpen list request.place × (bank_index (bank_at request.place) ≡ bank)
+      → IsMet scan (bank_at request.place) request.kind
+      ⊎ (Has scan.wanting (bank_index (bank_at request.place)) × (slice_index scan.others (bank_index (bank_at request.place)) ≤ index))
+  pub noted : (bank : ℕ) (request : Pending) → Has scan.wanting bank → IsEligible pending (slice_index scan.others bank) request
+      → IsOtherOpen list request.place × (bank_index (bank_at request.place) ≡ bank)
+  pub earlier : (bank : ℕ) → Has scan.wanting bank → slice_index scan.others bank < end
 
--- The bests are those of eligible requests, and so are the places that are noted of the banks, which are the first ones, so many.
+-- The bests are those of eligible requests, and so are the places that are noted of the banks.
 pub record IsScanFound (g : Geometry) (pending : List Pending) (now limit : ℕ) (scan : Scan) : Type 0 where
   pub bests : AreFound g pending now limit scan.bests
-  pub others : (bank : ℕ) → bank < 64 → slice_index scan.others bank < length pending
-      → (request : Pending) × IsEligibleIn g pending (slice_index scan.others bank) request
-  pub noted : (bank : ℕ) → bank < 64 → slice_index scan.others bank < length pending → bank < scan.most
-  pub small : scan.most ≤ 64
+  pub others : (bank : ℕ) → Has scan.wanting bank → (request : Pending) × IsEligibleIn g pending (slice_index scan.others bank) request
 
 -- the better of a best one and another, which may have its command from a clock on and before an end; of two at one clock the older
 abbrev pub IsOlderBetter : Best → ℕ → ℕ → ℕ → Best → Type 0

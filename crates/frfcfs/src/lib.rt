@@ -6,6 +6,7 @@
 //! (`docs/REFRESH_MARGIN.md` has the arithmetic). The definitions are in `specs/`.
 #![tactic(auto)]
 
+mod bank_set;
 mod best;
 mod hits;
 mod key;

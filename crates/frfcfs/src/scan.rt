@@ -4,12 +4,14 @@ ghost use Rattle.ddr4_timing.specs.Places.{LiesIn};
 ghost use Rattle.ddr4_timing.specs.declared.command.Stamped.{Stamped};
 ghost use Rattle.bank_core.specs.Stands.{Stands};
 ghost use Rattle.frfcfs.specs.declared.pending.Pending.{Pending};
+ghost use Rattle.frfcfs.specs.BankSets.{Has};
 ghost use Rattle.frfcfs.specs.Keys.{AreKeysIn, IsKeyOf, place_of};
 ghost use Rattle.frfcfs.specs.Requests.{IsEligible};
 ghost use Rattle.frfcfs.specs.Candidates.{WantsRow};
 ghost use Rattle.frfcfs.specs.Scan.{AreScanned, IsScanFound, flag_of};
 ghost use Rattle.frfcfs.specs.Search.{AreBest, AreEnds, AreFound, HasEligibleIn, IsBest, IsFound, Takes, limit_of, no_bests};
 
+use crate::bank_set::BankSet;
 use crate::best::{Best, Bests};
 use crate::key::Key;
 use crate::pending::{Kind, Pending};
@@ -23,10 +25,10 @@ pub(crate) struct Scan {
     pub(crate) bests: Bests,
     /// Of each bank and kind, whether a request was met: its RD or WR was offered, or its ACT where the bank is closed.
     pub(crate) met: [bool; 128],
-    /// Of each bank, where the oldest request stands that wants another row than the one that is open there.
+    /// The banks of which a request was met that wants another row than the one that is open there.
+    pub(crate) wanting: BankSet,
+    /// Of each of these, where the oldest such request stands.
     pub(crate) others: [usize; 64],
-    /// One more than the last bank that has such a request, 0 where none has.
-    pub(crate) most: usize,
 }
 
 // Where the flag of a bank and a kind stands.
@@ -41,18 +43,17 @@ fn flag(bank: usize, kind: Kind) -> usize
 }
 
 impl Scan {
-    // Before any request was looked at, of so many, in a span up to a last clock.
-    fn none(last: u64, size: usize) -> Scan
+    // Before any request was looked at, in a span up to a last clock.
+    fn none(last: u64) -> Scan
         ensures bests { result.bests ≡ no_bests (limit_of last) }
         ensures met { result.met ≡ replicate 128 false }
-        ensures others { result.others ≡ replicate 64 size }
-        ensures most { result.most ≡ 0 }
+        ensures wanting { (bank : ℕ) → ¬ Has result.wanting bank }
     {
         Scan {
             bests: Bests::none(last.saturating_add(1)),
             met: [false; 128],
-            others: [size; 64],
-            most: 0,
+            wanting: BankSet::none(),
+            others: [0; 64],
         }
     }
 
@@ -95,9 +96,9 @@ impl Scan {
                         .column
                         .offer(index, clock.max(now), ends[at.rank as usize]);
                     self.met[mark] = true;
-                } else {
-                    self.others[bank] = self.others[bank].min(index);
-                    self.most = self.most.max(bank + 1);
+                } else if !self.wanting.has(bank) {
+                    self.wanting.add(bank);
+                    self.others[bank] = index;
                 }
             }
         }
@@ -114,8 +115,7 @@ impl Scan {
     ) -> bool
         requires bests { self.old.bests ≡ no_bests (limit_of last) }
         requires met { self.old.met ≡ replicate 128 false }
-        requires others { self.old.others ≡ replicate 64 (length keys.now) }
-        requires most { self.old.most ≡ 0 }
+        requires wanting { (bank : ℕ) → ¬ Has self.old.wanting bank }
         requires lie { All (λ key. LiesIn banks.now.checked.geometry (place_of key)) keys.now }
         requires early { (rank : ℕ) → slice_index ends.now rank ≤ limit_of last }
         ensures any { (pending : List Pending)
@@ -141,7 +141,8 @@ impl Scan {
 
     // The best ACT or PRE, once each request was looked at.
     fn soonest_row(&self, banks: &Banks, pending: &[Pending], ends: &[u64; 4], now: u64) -> Best
-        requires small { self.now.most ≤ 64 }
+        requires noted { (bank : ℕ) → Has self.now.wanting bank →
+            slice_index self.now.others bank < length pending.now }
         requires places { (index : ℕ) (request : Pending)
             → slice_get pending.now index ≡ Some request →
             LiesIn banks.now.checked.geometry request.place }
@@ -158,9 +159,10 @@ impl Scan {
             now limit (length pending.now) result }
     {
         let mut best = self.bests.row;
-        for bank in 0..self.most {
-            let index = self.others[bank];
-            if index < pending.len() && !self.met[2 * bank] && !self.met[2 * bank + 1] {
+        let mut left = self.wanting;
+        while let Some(bank) = left.take_one() {
+            if !self.met[2 * bank] && !self.met[2 * bank + 1] {
+                let index = self.others[bank];
                 let request = &pending[index];
                 let clock = banks.least_clock(request.pre());
                 let end = ends[request.place.rank as usize];
@@ -194,7 +196,7 @@ pub(crate) fn find_soonest(
         AreBest banks.now.checked list pending.now now last (limit_of last) (length pending.now) result.bests }
 {
     let ends = ends(banks, last);
-    let mut scan = Scan::none(last, keys.len());
+    let mut scan = Scan::none(last);
     let any = scan.look_at_each(banks, keys, &ends, now, last);
     let row = scan.soonest_row(banks, pending, &ends, now);
     Soonest {

@@ -1,4 +1,4 @@
-use Rattle.std.proofs.Common.{arith}
+use Rattle.std.proofs.lemmas.Option.{slice_get_within}
 use Rattle.frfcfs.proofs.Common.{limit_of}
 use Rattle.frfcfs.proofs.KeyLemmas.{keys_lie, place_there}
 use Rattle.frfcfs.proofs.scan.find_soonest.Goals as goal
@@ -6,8 +6,10 @@ use Rattle.frfcfs.proofs.scan.find_soonest.Goals as goal
 pub look_at_each-any-requires-clause-lie : goal.look_at_each-any-requires-clause-lie
 look_at_each-any-requires-clause-lie c = keys_lie c.args.banks.now.checked.geometry c.args.pending.now c.args.keys.now c.args.banks.now.checked.is_small c.requires
 
-pub soonest_row-row-requires-clause-small : goal.soonest_row-row-requires-clause-small
-soonest_row-row-requires-clause-small c = (c.look_at_each-any.ensures.found c.args.pending.now c.requires).small
+pub soonest_row-row-requires-clause-noted : goal.soonest_row-row-requires-clause-noted
+soonest_row-row-requires-clause-noted c bank h =
+    let (request, el) = (c.look_at_each-any.ensures.found c.args.pending.now c.requires).others bank h in
+    slice_get_within c.args.pending.now _ request el.0.here
 
 pub soonest_row-row-requires-clause-places : goal.soonest_row-row-requires-clause-places
 soonest_row-row-requires-clause-places c index request at = place_there c.args.banks.now.checked.geometry c.args.pending.now c.args.keys.now index request c.requires at

@@ -1,6 +1,6 @@
-use Rattle.std.proofs.Common.{◌≡◌, ◌<◌, ℕ, List, ap, ◌∙◌, arith, length, replicate, true, false}
+use Rattle.std.proofs.Common.{◌≡◌, arith, length, true, false}
 use Rattle.std.proofs.lemmas.Option.{slice_get_within}
-use Rattle.frfcfs.proofs.Common.{AreKeysIn, HasBank, IsEligible, IsKeyOf, Key, LiesIn, Pending, bank_at, limit_of}
+use Rattle.frfcfs.proofs.Common.{limit_of}
 use Rattle.frfcfs.proofs.HitLemmas.{WaitsAt, kept_flag, none_waits, set_flag}
 use Rattle.frfcfs.proofs.KeyLemmas.{key_look, key_there, place_there}
 use Rattle.frfcfs.proofs.Lists.{something_at}
@@ -11,8 +11,8 @@ use Rattle.frfcfs.proofs.scan.Scan.look_at_each.Goals.{then-is_free, else-is_fre
 pub loop-index-init : goal.loop-index-init
 loop-index-init c = record {
   any = λ pending are. (λ e. absurd (cc), λ h. absurd (omega (arith, h.1)));
-  found = λ pending are. found_none c.args.banks.now.checked.geometry pending c.args.now (limit_of c.args.last) c.args.self.now c.requires.bests (c.requires.others ∙ ap (λ (n : ℕ). replicate 64 n) are.keyed.size) c.requires.most;
-  scanned = λ list pending s ends are. scan_none c.args.banks.now.checked list pending c.args.now c.args.last (limit_of c.args.last) c.args.self.now c.requires.bests c.requires.met (c.requires.others ∙ ap (λ (n : ℕ). replicate 64 n) are.keyed.size);
+  found = λ pending are. found_none c.args.banks.now.checked.geometry pending c.args.now (limit_of c.args.last) c.args.self.now c.requires.bests c.requires.wanting;
+  scanned = λ list pending s ends are. scan_none c.args.banks.now.checked list pending c.args.now c.args.last (limit_of c.args.last) c.args.self.now c.requires.bests c.requires.met c.requires.wanting;
 }
 
 pub look-requires : goal.look-requires

@@ -1,0 +1,46 @@
+// Sets of banks.
+ghost use Rattle.std.specs.Prelude.{◌≡◌, ◌≢◌, ◌⊎◌, ◌<◌, ◌↔◌, ℕ, IsTrue};
+ghost use Rattle.frfcfs.specs.BankSets.{Has, IsOneTaken};
+
+/// Some of the 64 banks that a channel has at most, a bit for each.
+#[derive(Clone, Copy)]
+pub(crate) struct BankSet {
+    bits: u64,
+}
+
+impl BankSet {
+    /// No bank.
+    pub(crate) fn none() -> BankSet
+        ensures { (bank : ℕ) → ¬ Has result bank }
+    {
+        BankSet { bits: 0 }
+    }
+
+    /// Whether a bank is one of them.
+    pub(crate) fn has(&self, bank: usize) -> bool
+        requires { bank < 64 }
+        ensures { IsTrue result ↔ Has self.now bank }
+    {
+        self.bits & (1 << bank) != 0
+    }
+
+    /// One bank more.
+    pub(crate) fn add(&mut self, bank: usize)
+        requires { bank < 64 }
+        ensures { (other : ℕ) → Has self.new other ↔ ((other ≡ bank) ⊎ Has self.old other) }
+    {
+        self.bits |= 1 << bank;
+    }
+
+    /// Takes one of them out, if there is one.
+    pub(crate) fn take_one(&mut self) -> Option<usize>
+        ensures { IsOneTaken self.old result self.new }
+    {
+        if self.bits == 0 {
+            return None;
+        }
+        let bank = self.bits.trailing_zeros() as usize;
+        self.bits &= !(1 << bank);
+        Some(bank)
+    }
+}
