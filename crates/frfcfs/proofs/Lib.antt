@@ -12,6 +12,7 @@ pub mod NextChoice
 pub mod ChoiceLaws
 pub mod QueueLemmas
 pub mod KeyLemmas
+pub mod CountLemmas
 pub mod KeepLemmas
 pub mod refreshes
 pub mod WorkLemmas

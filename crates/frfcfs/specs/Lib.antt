@@ -1,5 +1,6 @@
 pub mod Requests
 pub mod Keys
+pub mod LineCounts
 pub mod Queue
 pub mod Candidates
 pub mod Next

@@ -11,6 +11,7 @@ mod best;
 mod hits;
 mod key;
 pub mod laws;
+mod line_counts;
 pub mod margin;
 pub mod next;
 pub mod pending;

@@ -4,11 +4,13 @@ ghost use Rattle.ddr4_timing.specs.Places.{LiesIn};
 ghost use Rattle.frfcfs.specs.declared.pending.Pending.{Pending};
 ghost use Rattle.frfcfs.specs.Requests.{AreInOrder};
 ghost use Rattle.frfcfs.specs.Keys.{AreHeldBy, AreKeys, firsts_of};
+ghost use Rattle.frfcfs.specs.LineCounts.{AreCounts};
 ghost use Rattle.frfcfs.specs.Queue.{AreFirsts, KeepsRequests, IsOldestOf, MarksOldest, Waiting, held_by, is_held, numbered_from, writes_among};
 
 mod copying;
 
 use crate::key::{Key, bank_number};
+use crate::line_counts::LineCounts;
 use crate::pending::{Kind, Pending};
 use ddr4_timing::place::Place;
 use ddr4_timing::timing::Geometry;
@@ -17,11 +19,13 @@ use std::alloc::{AllocError, Global};
 use std::marker::Model;
 
 /// The pending requests of a channel, in order of arrival. It keeps a key of each, which says beside its bank, row and kind
-/// whether it is held and whether it is the first of its line, so that no search has to look for older ones.
+/// whether it is held and whether it is the first of its line, so that no search has to look for older ones; and how many of
+/// their lines have the same low bits, so that a look for a line is mostly spared.
 #[derive(Drop)]
 pub struct Queue {
     pending: GapList<Pending>,
     keys: GapList<Key>,
+    counts: LineCounts,
     next: u64,
 }
 
@@ -31,14 +35,16 @@ impl Model for Queue {
     ghost view = { λ q. record { most = q.pending.most; next = q.next; requests = q.pending.items } };
 
     ghost invariant = { λ q. KeepsRequests (record { most = q.pending.most; next = q.next; requests = q.pending.items })
-        q.keys };
+        q.keys q.counts };
 }
 
-// Is the line that of no key?
-fn is_new(keys: &[Key], line: u64) -> bool
-    ensures { IsTrue result ↔ All (λ key. key.line ≢ line) keys.now }
+// Is the line that of no key? The counts are those of their lines.
+fn is_new(keys: &[Key], counts: &LineCounts, line: u64) -> bool
+    ensures { (pending : List Pending) → AreKeys pending keys.now →
+        AreCounts (map (λ p. p.line) pending) counts.now →
+        (IsTrue result ↔ All (λ key. key.line ≢ line) keys.now) }
 {
-    keys.iter().all(|key| key.line != line)
+    counts.lack(line) || keys.iter().all(|key| key.line != line)
 }
 
 // Where the oldest request of a line stands.
@@ -48,14 +54,18 @@ fn oldest_of(keys: &[Key], line: u64) -> Option<usize>
     keys.iter().position(|key| key.line == line)
 }
 
-// Marks the oldest request of a line.
-fn mark_oldest(keys: &mut GapList<Key>, line: u64)
-    ensures marks { MarksOldest line keys.old.items
-        (firsts_of keys.old.items) (firsts_of keys.new.items) }
+// Marks the oldest request of a line. The counts are those of all their lines.
+fn mark_oldest(keys: &mut GapList<Key>, counts: &LineCounts, line: u64)
+    ensures marks { (pending : List Pending) → AreKeys pending keys.old.items →
+        AreCounts (map (λ p. p.line) pending) counts.now →
+        MarksOldest line keys.old.items (firsts_of keys.old.items) (firsts_of keys.new.items) }
     ensures keys { (pending : List Pending) →
         AreKeys pending keys.old.items → AreKeys pending keys.new.items }
     ensures most { keys.new.most ≡ keys.old.most }
 {
+    if counts.lack(line) {
+        return;
+    }
     if let Some(place) = oldest_of(keys.as_slice(), line) {
         let key = keys.as_slice()[place];
         keys.set(place, Key { first: true, ..key });
@@ -116,6 +126,7 @@ impl Queue {
         Ok(Queue {
             pending: GapList::with_room(alloc, most)?,
             keys: GapList::with_room(alloc, most)?,
+            counts: LineCounts::none(),
             next: 0,
         })
     }
@@ -157,7 +168,7 @@ impl Queue {
         self.keys.as_slice()
     }
 
-    /// Adds a request behind the others. It looks at each of them.
+    /// Adds a request behind the others. It looks at each of them where one has a line of the same low bits.
     pub fn push(&mut self, place: Place, line: u64, kind: Kind, number: u64, held: bool)
         requires room { length self.old.requests < self.old.most }
         requires next { self.old.next < 2 ^ 64 - 1 }
@@ -166,7 +177,8 @@ impl Queue {
         ensures next { self.new.next ≡ self.old.next + 1 }
         ensures most { self.new.most ≡ self.old.most }
     {
-        let first = is_new(self.keys.as_slice(), line);
+        let first = is_new(self.keys.as_slice(), &self.counts, line);
+        self.counts.add(line);
         self.pending.push(Pending {
             seq: self.next,
             place,
@@ -195,7 +207,8 @@ impl Queue {
     {
         let taken = self.pending.take(place);
         self.keys.take(place);
-        mark_oldest(&mut self.keys, taken.line);
+        self.counts.forget(taken.line);
+        mark_oldest(&mut self.keys, &self.counts, taken.line);
         taken
     }
 

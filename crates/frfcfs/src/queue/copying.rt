@@ -12,6 +12,7 @@ impl Queue {
         Ok(Queue {
             pending: self.pending.copy(alloc)?,
             keys: self.keys.copy(alloc)?,
+            counts: self.counts,
             next: self.next,
         })
     }

@@ -1,17 +1,21 @@
-use Rattle.std.proofs.Common.{◌≡◌, ◌<◌, false, List, Option, Some, ℕ, length, subst, sym, ap, ◌∙◌, arith, get_or}
+use Rattle.std.proofs.Common.{◌≡◌, ◌<◌, false, List, Option, None, Some, ℕ, length, refl, subst, ap, ◌∙◌, get_or}
 use Rattle.std.proofs.lemmas.List.{get_or_default, map-set}
 use Rattle.std.proofs.lemmas.Option.{slice_get_within}
 use Rattle.gap_list.specs.Bounded.{Bounded}
-use Rattle.frfcfs.proofs.Common.{AreKeys, IsOldestOf, Key, Read, firsts_of}
-use Rattle.frfcfs.proofs.KeyLemmas.{keys_mark}
+use Rattle.frfcfs.proofs.Common.{IsOldestOf, Key, Read, firsts_of}
+use Rattle.frfcfs.proofs.KeyLemmas.{keys_mark, new_line}
+use Rattle.frfcfs.proofs.QueueLemmas.{lines}
 use Rattle.frfcfs.proofs.queue.mark_oldest.Goals as goal
 
 -- the first key of the line, where there is one
 oldest : (line : ℕ) (keys read : List Key) (found place : Option ℕ) → read ≡ keys → found ≡ place → IsOldestOf line read found → IsOldestOf line keys place
 oldest line keys read found place same is here = subst (λ (xs : List Key). IsOldestOf line xs place) same (subst (λ (o : Option ℕ). IsOldestOf line read o) is here)
 
+pub returns-then-lack-clause-marks : goal.returns-then-lack-clause-marks
+returns-then-lack-clause-marks c requests are counted = (None, (new_line c.args.line requests c.args.keys.now.items are).1 (c.if-lack.ensures (lines requests) counted refl), refl)
+
 pub returns-in-Some-clause-marks : goal.returns-in-Some-clause-marks
-returns-in-Some-clause-marks c = (
+returns-in-Some-clause-marks c requests are counted = (
   Some c.in-Some.place,
   oldest c.args.line c.args.keys.now.items c.as_slice.result.now c.oldest_of.result (Some c.in-Some.place) c.as_slice.ensures c.in-Some.is c.oldest_of.ensures,
   ap (λ (l : Bounded Key). firsts_of l.items) c.set.ensures ∙ map-set (λ (k : Key). k.first) c.args.keys.now.items c.in-Some.place _,

@@ -11,7 +11,7 @@ invariant_of-self c =
     let new = c.hold_keys.new.keys in
     let now = c.as_slice.ensures ∙ ap (λ (l : Bounded Pending). l.items) c.hold_each.ensures in
     let held = subst (λ (xs : List Pending). AreHeldBy xs inside.keys.items new.items) now c.hold_keys.ensures.held in
-    rw c.hold_each.ensures (kept_held c.args.from w inside.keys new c.self.invariant c.hold_keys.ensures.most held)
+    rw c.hold_each.ensures (kept_held c.args.from w inside.keys new inside.counts c.self.invariant c.hold_keys.ensures.most held)
 
 pub returns : goal.returns
 returns c =

@@ -10,4 +10,4 @@ invariant_of-self c =
     let inside = c.self.inside in
     let w : Waiting = record { most = inside.pending.most; next = inside.next; requests = inside.pending.items } in
     let next : c.len.result ≡ length w.requests = c.len.ensures ∙ (ap (λ (l : Bounded Pending). length l.items) c.number_each.ensures ∙ length-numbered 0 w.requests) in
-    rw (next, c.number_each.ensures) (kept_numbered w inside.keys c.self.invariant)
+    rw (next, c.number_each.ensures) (kept_numbered w inside.keys inside.counts c.self.invariant)

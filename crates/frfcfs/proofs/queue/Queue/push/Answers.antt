@@ -1,7 +1,20 @@
-use Rattle.std.proofs.Common.{◌<◌, ◌≢◌, ◌↔◌, List, All, IsTrue, length, refl, sym, subst}
-use Rattle.frfcfs.proofs.Common.{Key, Pending, Waiting}
+use Rattle.std.proofs.Common.{◌<◌, ◌≢◌, ◌↔◌, List, All, IsTrue, arith, length, refl, sym, subst, ap}
+use Rattle.std.proofs.lemmas.List.{length-map}
+use Rattle.frfcfs.specs.LineCounts.{AreCounts}
+use Rattle.frfcfs.proofs.Common.{AreKeys, Key, Pending, Waiting}
+use Rattle.frfcfs.proofs.CountLemmas.{counts_few}
 use Rattle.frfcfs.proofs.KeptRequests.{kept_push}
+use Rattle.frfcfs.proofs.QueueLemmas.{lines}
 use Rattle.frfcfs.proofs.queue.Queue.push.Goals as goal
+
+pub add-requires : goal.add-requires
+add-requires c =
+    let inside = c.self.inside in
+    let requests = inside.pending.items in
+    let few = counts_few (lines requests) inside.counts c.args.line c.self.invariant.counted in
+    let size = c.self.invariant.keyed.size in
+    let read = ap (λ (keys : List Key). length keys) c.as_slice.ensures in
+    omega (arith, few, size, read, length-map requests (λ (q : Pending). q.line))
 
 pub invariant_of-self : goal.invariant_of-self
 invariant_of-self c =
@@ -9,5 +22,8 @@ invariant_of-self c =
     let w : Waiting = record { most = inside.pending.most; next = inside.next; requests = inside.pending.items } in
     let p : Pending = record { seq = inside.next; place = c.args.place; line = c.args.line; kind = c.args.kind; number = c.args.number; held = c.args.held } in
     let room : length w.requests < w.most = subst (λ (v : Waiting). length v.requests < v.most) (sym c.self.view_is) c.requires.room in
-    let first = subst (λ (keys : List Key). IsTrue c.is_new-first.result ↔ All (λ key. key.line ≢ c.args.line) keys) c.as_slice.ensures c.is_new-first.ensures in
-    rw (c.push.ensures, c.push-2.ensures) (kept_push w inside.keys p _ c.self.invariant room refl first (record { row = refl; line = refl; bank = c.bank_number.ensures; kind = refl; held = refl }))
+    let first : IsTrue c.is_new-first.result ↔ All (λ key. key.line ≢ c.args.line) inside.keys.items =
+    subst (λ (keys : List Key). (requests : List Pending) → AreKeys requests keys → AreCounts (lines requests) inside.counts → (IsTrue c.is_new-first.result ↔ All (λ key. key.line ≢ c.args.line) keys)) c.as_slice.ensures c.is_new-first.ensures
+    w.requests c.self.invariant.keyed c.self.invariant.counted in
+    rw (c.push.ensures, c.push-2.ensures)
+    (kept_push w inside.keys p _ inside.counts c.add.new.self c.self.invariant room refl first (record { row = refl; line = refl; bank = c.bank_number.ensures; kind = refl; held = refl }) c.add.ensures)
