@@ -1,6 +1,8 @@
 // A trace, checked and measured.
-ghost use Rattle.std.specs.Prelude.{◌≡◌, [], ◌∷◌, ◌++◌, ◌<◌, ◌≤◌, ◌^◌, IfOk};
+ghost use Rattle.std.specs.Prelude.{◌≡◌, ℕ, [], ◌∷◌, ◌++◌, ◌<◌, ◌≤◌, ◌^◌, List, Option, IfOk};
 ghost use Rattle.command_trace.specs.Channels.{FollowsAll};
+ghost use Rattle.command_trace.specs.Sources.{bytes_of};
+ghost use Rattle.command_trace.specs.Traces.{AreCommandsOf, HasRead};
 ghost use Rattle.trace_statistics.specs.Standing.{AreOfLawful};
 
 use crate::statistics::TraceStatistics;
@@ -60,6 +62,8 @@ pub fn measure_trace<R: Read + Drop>(
     requires fresh { reader.old.given.items ≡ [] }
     ensures follows { IfOk result (λ m. FollowsAll rules.now m.check) }
     ensures whole { IfOk result (λ m. m.check.given.items ≡ reader.new.given.items) }
+    ensures reads { (bytes : Option (List ℕ)) → HasRead R.remaining bytes reader.old [] →
+        IfOk result (λ m. AreCommandsOf reader.old.form bytes m.check.given.items) }
     ensures lawful { IfOk result (λ m. AreOfLawful rules.now
         m.check.given.items m.statistics.given.items) }
     ensures rules { IfOk result (λ m. m.statistics.rules ≡ rules.now) }
@@ -67,11 +71,12 @@ pub fn measure_trace<R: Read + Drop>(
     let mut measured = Measured::new(rules);
     for _ in 0..u64::MAX {
         let Some(found) = reader.next()? else {
-            break;
+            return Ok(measured);
         };
         measured.take(rules, &found);
     }
-    Ok(measured)
+    // more commands than can be counted
+    Err(TraceFault::Reader)
 }
 
 /// Reads the trace of a source to its end, checks it and counts. A line that is no command is refused by its number.
@@ -82,6 +87,8 @@ pub fn measure<R: Files + AllocGlobal>(
     rules: &CommandRules,
 ) -> Result<Measured, TraceFault>
     ensures follows { IfOk result (λ m. FollowsAll rules.now m.check) }
+    ensures reads { IfOk result (λ m.
+        AreCommandsOf form (bytes_of source.now) m.check.given.items) }
     ensures lawful { IfOk result (λ m. AreOfLawful rules.now
         m.check.given.items m.statistics.given.items) }
     ensures rules { IfOk result (λ m. m.statistics.rules ≡ rules.now) }
@@ -99,6 +106,8 @@ fn measure_of<S: Read + Drop>(
     rules: &CommandRules,
 ) -> Result<Measured, TraceFault>
     ensures follows { IfOk result (λ m. FollowsAll rules.now m.check) }
+    ensures reads { IfOk result (λ m.
+        AreCommandsOf form (S.remaining trace) m.check.given.items) }
     ensures lawful { IfOk result (λ m. AreOfLawful rules.now
         m.check.given.items m.statistics.given.items) }
     ensures rules { IfOk result (λ m. m.statistics.rules ≡ rules.now) }
