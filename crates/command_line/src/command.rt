@@ -65,22 +65,32 @@ where
     let parser = parser(rt.alloc(), VERSION)?;
     let matches = match parser.try_get_matches_from(words) {
         Ok(matches) => matches,
-        Err(error) => return usage(rt, &error, writer),
+        Err(error) => {
+            return match usage(rt, &error, writer) {
+                Ok(code) => Ok(code),
+                Err(failure) => Err(told(failure, is_watched, writer)),
+            };
+        }
     };
     let Some((verb, found)) = matches.subcommand() else {
         return Ok(ExitCode::SUCCESS);
     };
     match done(rt, verb, found, is_watched, writer) {
         Ok(code) => Ok(code),
-        Err(failure) if is_watched || found.get_flag("why") => Err(reasoned(failure, writer)),
-        Err(failure) => Err(Failure::from(failure.fault)),
+        Err(failure) => {
+            let is_asked = is_watched || found.get_flag("why");
+            Err(told(failure, is_asked, writer))
+        }
     }
 }
 
-// The failure with its reason, which the writer has where standard output takes no more.
-fn reasoned<'a, W: Outgoing>(failure: Failure<'a>, writer: &W) -> Failure<'a>
+// The failure with its reason where that is asked for. Where standard output takes no more, the writer has it.
+fn told<'a, W: Outgoing>(failure: Failure<'a>, is_asked: bool, writer: &W) -> Failure<'a>
     ensures { result.fault ≡ failure.entry.fault }
 {
+    if !is_asked {
+        return Failure::from(failure.fault);
+    }
     let is_of_output = match &failure.fault {
         ProgramFault::File("-") | ProgramFault::Script(ScriptFault::Writer) => true,
         _ => false,
@@ -157,6 +167,6 @@ where
     }
     match error.print(rt) {
         Ok(()) => Ok(ExitCode::from(error.exit_code() as u8)),
-        Err(_) => Err(Failure::from(ProgramFault::File("-"))),
+        Err(error) => Err(Failure::of_file("-", &error)),
     }
 }

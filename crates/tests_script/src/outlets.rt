@@ -1,6 +1,6 @@
 // Standard output that may be closed, or take no more.
 use crate::check::same;
-use crate::program::{make, outcome, place, remove};
+use crate::program::{make, outcome, outcome_watched, place, remove};
 use command_line::Outlet;
 use std::io::{self, ErrorKind, Write};
 use std::process::{self, ExitCode};
@@ -51,6 +51,11 @@ fn an_output_that_takes_no_more(rt: HostRuntime) {
         (["run", "tiny", "%script", "--json"], "file -"),
     ] {
         let (code, told) = outcome(&rt, place, &words, &mut Refusing { kind });
+        same(&rt, (code, told.as_str()), (ExitCode::FAILURE, line));
+    }
+    for (is_watched, line) in [(true, "file -\nthere is no room for it"), (false, "file -")] {
+        let mut writer = Refusing { kind };
+        let (code, told) = outcome_watched(&rt, place, &["-V"], is_watched, &mut writer);
         same(&rt, (code, told.as_str()), (ExitCode::FAILURE, line));
     }
     remove(&rt, place, "%script");

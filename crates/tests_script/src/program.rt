@@ -22,13 +22,28 @@ where
     R: Abort + Files + FileHost + Host + StoreHost + Input + Print + Eprint + Clock + AllocGlobal,
     W: Write,
 {
+    outcome_watched(rt, place, words, false, writer)
+}
+
+// The same where someone may look at standard error.
+pub(crate) fn outcome_watched<R, W>(
+    rt: &R,
+    place: &str,
+    words: &[&str],
+    is_watched: bool,
+    writer: &mut W,
+) -> (ExitCode, String)
+where
+    R: Abort + Files + FileHost + Host + StoreHost + Input + Print + Eprint + Clock + AllocGlobal,
+    W: Write,
+{
     let mut given = Vec::new(rt.alloc());
     given.push(named(rt, place, "nvctl")).expect(rt, "memory");
     for word in words {
         given.push(named(rt, place, word)).expect(rt, "memory");
     }
     let mut outlet = Outlet::new(writer);
-    match run(rt, &given, false, &mut outlet) {
+    match run(rt, &given, is_watched, &mut outlet) {
         Ok(code) => (code, String::new(rt.alloc())),
         Err(failure) => (failure.exit_code(), told(rt, &failure)),
     }
