@@ -1,7 +1,6 @@
 -- A front tells whether its list is lawful, and goes on with each command.
 use Rattle.std.proofs.Common.{◌≡◌, ◌↔◌, ℕ, ◌+◌, ◌-◌, ◌^◌, Bool, true, false, List, [], ◌∷◌, ◌++◌, length, IsTrue, refl, sym, ap, ◌∙◌, subst, inl, inr, ◌⊎◌, min, arith, length-append}
 use Rattle.std.proofs.lemmas.List.{append_assoc, map-append}
-use Rattle.ddr4_timing.specs.declared.command.Stamped.{Stamped}
 use Rattle.ddr4_timing.specs.declared.timing.CommandRules.{CommandRules}
 use Rattle.auto_precharge.specs.Unfolding.{IsLawfulTrace, MayFollow, unfolded, unfolded_none}
 use Rattle.auto_precharge.specs.declared.issued.Issued.{Issued}

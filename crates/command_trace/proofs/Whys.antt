@@ -1,15 +1,8 @@
 -- What is told of a command that may not follow a list.
-use Rattle.std.proofs.Common.{◌≡◌, ◌↔◌, ℕ, ◌<◌, ◌≤◌, List, [], ◌∷◌, ◌++◌, length, Option, Some, None, IfSome, IsNone, slice_get, slice_index, get_or, take, unwrap_or, refl, sym, ap, ◌∙◌, subst, inl, inr, ◌⊎◌, arith}
+use Rattle.std.proofs.Common.{◌≡◌, ◌↔◌, ℕ, ◌<◌, ◌≤◌, List, [], ◌∷◌, ◌++◌, length, Option, Some, None, IfSome, IsNone, slice_get, slice_index, get_or, take, unwrap_or, refl, ap, ◌∙◌, arith}
 use Rattle.std.proofs.Math.Seq.{take-append_seam}
-use Rattle.std.proofs.lemmas.Option.{get_or_from_slice_get}
-use Rattle.ddr4_timing.specs.Lawful.{ObeysRule, ObeysRulesBefore}
 use Rattle.ddr4_timing.specs.declared.command.Stamped.{Stamped}
-use Rattle.ddr4_timing.specs.declared.timing.CommandRules.{CommandRules}
-use Rattle.auto_precharge.specs.Unfolding.{Unfolded}
 use Rattle.auto_precharge.specs.declared.issued.Issued.{Issued}
-use Rattle.command_trace.specs.Faults.{IsWhy}
-use Rattle.command_trace.specs.Reasons.{IsReasonOf}
-use Rattle.command_trace.specs.declared.diagnosis.Diagnosis.{Diagnosis}
 use Rattle.command_trace.specs.declared.diagnosis.NumberedCommand.{NumberedCommand}
 
 -- the command at an index of a list, where it is there

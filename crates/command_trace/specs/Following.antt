@@ -1,5 +1,5 @@
 -- Which commands a `CommandChecker` has taken.
-use Rattle.std.specs.Prelude.{◌≡◌, ℕ, ◌-◌, ◌^◌, List, [], ◌∷◌, ◌++◌, IsTrue, length, map, min}
+use Rattle.std.specs.Prelude.{◌≡◌, ℕ, ◌-◌, ◌^◌, List, ◌∷◌, ◌++◌, IsTrue, length, map, min}
 use Rattle.ddr4_timing.specs.declared.command.Stamped.{Stamped}
 use Rattle.ddr4_timing.specs.declared.timing.CommandRules.{CommandRules}
 use Rattle.auto_precharge.specs.Unfolding.{IsLawfulTrace, MayFollow, Stands, unfolded}

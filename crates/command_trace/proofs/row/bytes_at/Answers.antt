@@ -1,4 +1,4 @@
-use Rattle.std.proofs.Common.{◌≡◌, ◌∙◌, ℕ, List, Option, Some, ap, option_map, Bor}
+use Rattle.std.proofs.Common.{◌∙◌, ℕ, List, Option, Some, ap, option_map, Bor}
 use Rattle.csv.specs.Records.{fields_of}
 use Rattle.command_trace.proofs.RowLemmas.{no_word_there, word_there}
 use Rattle.command_trace.proofs.row.bytes_at.Goals as goal

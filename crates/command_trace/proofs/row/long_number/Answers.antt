@@ -1,4 +1,4 @@
-use Rattle.std.proofs.Common.{◌≡◌, ◌+◌, ◌*◌, ◌≤◌, ◌^◌, ℕ, arith, refl, slice_index_or}
+use Rattle.std.proofs.Common.{◌+◌, ◌*◌, ◌≤◌, ◌^◌, ℕ, arith, refl, slice_index_or}
 use Rattle.std.specs.Char.{digit_value}
 use Rattle.command_trace.proofs.Digits.{comes_too_far, digit_worth}
 use Rattle.command_trace.proofs.row.long_number.Goals as goal

@@ -1,4 +1,4 @@
-use Rattle.std.proofs.Common.{[], ◌∷◌, ◌++◌, List, IsTrue, refl, subst, sym, ap, ◌∙◌}
+use Rattle.std.proofs.Common.{[], ◌∷◌, List, IsTrue, refl, subst, sym, ap, ◌∙◌}
 use Rattle.auto_precharge.specs.Unfolding.{MayFollow, Stands, Unfolded, unfolded, unfolded_with}
 use Rattle.auto_precharge.specs.declared.issued.Issued.{Issued}
 use Rattle.auto_precharge.proofs.Settling.{unfolded_push}

@@ -1,4 +1,4 @@
-use Rattle.std.proofs.Common.{◌≡◌, ◌∙◌, ◌++◌, ℕ, Bool, List, Option, None, Result, ap, is_some, subst, sym, IfOk}
+use Rattle.std.proofs.Common.{◌∙◌, ℕ, Bool, List, Option, None, Result, ap, is_some, subst, sym, IfOk}
 use Rattle.csv.specs.Records.{fields_of}
 use Rattle.command_trace.specs.Rows.{RowSays, words_of_row}
 use Rattle.command_trace.specs.Traces.{AreCommandsOf, HasReadNext}
