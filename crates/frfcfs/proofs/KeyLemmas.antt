@@ -8,7 +8,7 @@ use Rattle.std.specs.List.{drop-map, take-map}
 use Rattle.std.proofs.lemmas.Option.{get_or_from_slice_get, slice_get-get_or, slice_get_within}
 use Rattle.ddr4_timing.proofs.Addresses.{same_address}
 use Rattle.frfcfs.specs.Scan.{flag_of}
-use Rattle.frfcfs.proofs.Common.{AreHeldBy, AreKeys, AreKeysIn, BankAddress, Geometry, HasBank, IsKeyOf, IsOldestOf, IsSmall, Key, Kind, LiesIn, Pending, bank_at, bank_index, bank_number, firsts_of, held_by, numbered_from, place_of}
+use Rattle.frfcfs.proofs.Common.{AreHeldBy, AreKeys, AreKeysIn, BankAddress, Geometry, IsKeyOf, IsOldestOf, IsSmall, Key, Kind, LiesIn, Pending, bank_at, bank_index, bank_number, firsts_of, held_by, numbered_from, place_of}
 use Rattle.frfcfs.proofs.HitLemmas.{IsLook}
 use Rattle.frfcfs.proofs.KeepLemmas.{length-numbered, numbered_at}
 use Rattle.frfcfs.proofs.Lists.{something_at}
