@@ -4,7 +4,7 @@ ghost use Rattle.ddr4_timing.specs.Limits.{lines_of};
 ghost use Rattle.interleave_map.specs.declared.ready.Interleaving.{Interleaving};
 ghost use Rattle.save_device.specs.Memory.{state_of};
 ghost use Rattle.slot_store.specs.Slots.{HasSize};
-ghost use Rattle.energy_budget.specs.Meter.{level_of, leak_of};
+ghost use Rattle.energy_budget.specs.Meter.{level_of, leak_of, lie_of};
 ghost use Rattle.nv_session.specs.Living.{IsShapeFor, PassesAll, innermost};
 
 use crate::session::{Session, passing};
@@ -15,7 +15,7 @@ use nv_profile::Profile;
 use save_device::MemoryDevice;
 
 impl<K: ChannelPort + Drop, A: Wires<K> + Drop> Session<K, A> {
-    /// A session with no life on this device, which has the size for the profile's lines, with a gauge that shows 0.
+    /// A session with no life on this device, which has the size for the profile's lines, with a gauge that shows 0 and tells no lie.
     pub fn over(device: MemoryDevice, profile: &Profile, wires: A) -> Session<K, A>
         requires fits { (map : Interleaving) → IsShapeFor profile.now (A.shape wires map) }
         requires checked { A.checked wires ≡ profile.now.checked }
@@ -27,6 +27,7 @@ impl<K: ChannelPort + Drop, A: Wires<K> + Drop> Session<K, A> {
         ensures passes { PassesAll result.device }
         ensures gauge { level_of result.gauge ≡ 0 }
         ensures leak { leak_of result.gauge ≡ 0 }
+        ensures lie { lie_of result.gauge ≡ None }
     {
         Session {
             device: passing(device),

@@ -49,8 +49,8 @@ pub(crate) fn passing(device: MemoryDevice) -> OneFault<Fuse<MemoryDevice>>
 }
 
 impl<K: ChannelPort + Drop, A: Wires<K> + Drop> Session<K, A> {
-    /// A session with no life, on a device of zero bytes, with a gauge that shows 0. It refuses only where there is no memory
-    /// for the device.
+    /// A session with no life, on a device of zero bytes, with a gauge that shows 0 and tells no lie. It refuses only where there is
+    /// no memory for the device.
     pub fn new(alloc: Global, profile: &Profile, wires: A) -> Result<Session<K, A>, AllocError>
         requires fits { (map : Interleaving) → IsShapeFor profile.now (A.shape wires map) }
         requires checked { A.checked wires ≡ profile.now.checked }
@@ -64,6 +64,7 @@ impl<K: ChannelPort + Drop, A: Wires<K> + Drop> Session<K, A> {
         ensures passes { IfOk result (λ session. PassesAll session.device) }
         ensures gauge { IfOk result (λ session. level_of session.gauge ≡ 0) }
         ensures leak { IfOk result (λ session. leak_of session.gauge ≡ 0) }
+        ensures lie { IfOk result (λ session. lie_of session.gauge ≡ None) }
     {
         let size = device_size(line_count(&profile.checked) as usize);
         let bytes = Vec::from_elem(alloc, 0, size)?;

@@ -76,7 +76,7 @@ impl<K: ChannelPort, B: SaveDevice> OpenLife<K, Fuse<EitherDevice<MemoryDevice, 
     ghost use Rattle.open_life.specs.Now.{now_of};
 
     /// Reads all bytes of a device in memory, and says whether it is one. It is no call of the life: none of the device's failures
-    /// meets it.
+    /// meets it, and as many calls still pass.
     pub fn read_memory(&mut self, into: &mut [u8]) -> bool
         requires { length into.old
             ≡ device_size (lines_of self.old.profile.checked.geometry) }
@@ -84,6 +84,7 @@ impl<K: ChannelPort, B: SaveDevice> OpenLife<K, Fuse<EitherDevice<MemoryDevice, 
         ensures memory { result ≡ true → IsSome (first_in self.old.device.device) }
         ensures file { result ≡ false → first_in self.old.device.device ≡ None }
         ensures same { result ≡ false → into.new ≡ into.old }
+        ensures passes { self.new.device.left ≡ self.old.device.left }
         ensures now { now_of self.new ≡ now_of self.old }
         ensures gauge { self.new.gauge ≡ self.old.gauge }
         ensures profile { self.new.profile ≡ self.old.profile }
@@ -104,10 +105,11 @@ impl<K: ChannelPort, A: SaveDevice> OpenLife<K, Fuse<EitherDevice<A, NotedDevice
     ghost use Rattle.open_life.specs.Now.{now_of};
 
     /// Hands out the oldest change that its device notes, which isn't noted then: its bytes into the beginning of a buffer. It is no
-    /// call of the life.
+    /// call of the life: as many calls still pass.
     pub fn hand_out(&mut self, into: &mut [u8]) -> Handed
         ensures hands { Hands result (changes_in self.old.device.device)
             (changes_in self.new.device.device) into.old into.new }
+        ensures passes { self.new.device.left ≡ self.old.device.left }
         ensures now { now_of self.new ≡ now_of self.old }
         ensures gauge { self.new.gauge ≡ self.old.gauge }
         ensures profile { self.new.profile ≡ self.old.profile }

@@ -1,8 +1,8 @@
 // How a life is opened: on what a device restores to, or on one that is formatted.
-ghost use Rattle.std.specs.Prelude.{◌≡◌, IfErr, IfOk, true};
+ghost use Rattle.std.specs.Prelude.{◌≡◌, IfErr, IfOk, None, true};
 ghost use Rattle.channel_set.specs.Issuing.{HaveIssuedNone};
 ghost use Rattle.ddr4_timing.specs.Limits.{lines_of};
-ghost use Rattle.energy_budget.specs.Meter.{leak_of, level_of, meter_gauge};
+ghost use Rattle.energy_budget.specs.Meter.{leak_of, level_of, lie_of, meter_gauge};
 ghost use Rattle.interleave_map.specs.declared.ready.Interleaving.{Interleaving};
 ghost use Rattle.line_memory.specs.Memory.{IsMemory};
 ghost use Rattle.module_core.specs.Stands.{assembly, setup_of};
@@ -88,8 +88,8 @@ fn begin<K: ChannelPort, D: SaveDevice>(
     }
 }
 
-/// Makes a device a store of zero lines, and opens a life on it over the profile's map, disarmed, with a gauge that shows 0. The device
-/// has the calls of one format, and no channel has issued a command.
+/// Makes a device a store of zero lines, and opens a life on it over the profile's map, disarmed, with a gauge that shows 0 and tells no
+/// lie. The device has the calls of one format, and no channel has issued a command.
 pub fn open_new<K: ChannelPort + Drop, A: Wires<K>, D: SaveDevice + Drop>(
     alloc: Global,
     profile: &Profile,
@@ -108,6 +108,7 @@ pub fn open_new<K: ChannelPort + Drop, A: Wires<K>, D: SaveDevice + Drop>(
         (D.state device).calls (D.state life.device).calls) }
     ensures level { IfOk result (λ life. level_of life.gauge ≡ 0) }
     ensures leak { IfOk result (λ life. leak_of life.gauge ≡ 0) }
+    ensures lie { IfOk result (λ life. lie_of life.gauge ≡ None) }
     ensures profile { IfOk result (λ life. life.profile ≡ profile.now) }
     ensures failed { IfErr result IsOfFormat }
 {
@@ -155,6 +156,7 @@ fn open_restored<K: ChannelPort + Drop, A: Wires<K>, D: SaveDevice + Drop>(
     ensures device { IfOk result (λ opened. opened.life.device ≡ device) }
     ensures level { IfOk result (λ opened. level_of opened.life.gauge ≡ 0) }
     ensures leak { IfOk result (λ opened. leak_of opened.life.gauge ≡ 0) }
+    ensures lie { IfOk result (λ opened. lie_of opened.life.gauge ≡ None) }
     ensures profile { IfOk result (λ opened. opened.life.profile ≡ profile.now) }
     ensures failed { IfErr result (λ fault. fault ≡ OpenFault.Memory) }
 {
@@ -192,6 +194,7 @@ fn open_formatted<K: ChannelPort + Drop, A: Wires<K>, D: SaveDevice + Drop>(
     ensures found { IfOk result (λ opened. opened.found ≡ Found.Formatted) }
     ensures level { IfOk result (λ opened. level_of opened.life.gauge ≡ 0) }
     ensures leak { IfOk result (λ opened. leak_of opened.life.gauge ≡ 0) }
+    ensures lie { IfOk result (λ opened. lie_of opened.life.gauge ≡ None) }
     ensures profile { IfOk result (λ opened. opened.life.profile ≡ profile.now) }
     ensures failed { IfErr result IsOfFormat }
 {
@@ -204,10 +207,10 @@ fn open_formatted<K: ChannelPort + Drop, A: Wires<K>, D: SaveDevice + Drop>(
     }
 }
 
-/// Opens a life with what a device restores to, over the profile's map, disarmed, with a gauge that shows 0. A device that holds no
-/// image is formatted first where that is wanted, and else refused. What a restore refuses is refused, and no byte has changed. The
-/// device has the calls of one restore, and where it was formatted those of one format behind them; no channel has issued a command.
-/// `Format` comes only where a device that holds no image was to be formatted.
+/// Opens a life with what a device restores to, over the profile's map, disarmed, with a gauge that shows 0 and tells no lie. A device
+/// that holds no image is formatted first where that is wanted, and else refused. What a restore refuses is refused, and no byte has
+/// changed. The device has the calls of one restore, and where it was formatted those of one format behind them; no channel has issued
+/// a command. `Format` comes only where a device that holds no image was to be formatted.
 pub fn open<K: ChannelPort + Drop, A: Wires<K>, D: SaveDevice + Drop>(
     alloc: Global,
     profile: &Profile,
@@ -229,6 +232,7 @@ pub fn open<K: ChannelPort + Drop, A: Wires<K>, D: SaveDevice + Drop>(
         (D.state device) (D.state opened.life.device)) }
     ensures level { IfOk result (λ opened. level_of opened.life.gauge ≡ 0) }
     ensures leak { IfOk result (λ opened. leak_of opened.life.gauge ≡ 0) }
+    ensures lie { IfOk result (λ opened. lie_of opened.life.gauge ≡ None) }
     ensures profile { IfOk result (λ opened. opened.life.profile ≡ profile.now) }
     ensures refused { IfErr result (IsRefusedFor
         (restored (lines_of profile.now.checked.geometry) (D.state device).bytes)) }
