@@ -1,5 +1,5 @@
 -- A call of the whole module, one channel after another.
-use Rattle.std.proofs.Common.{List, Option, [], ap, arith, length, refl, rules, slice_index_or, subst, suc, sym, true, ℕ, ◌++◌, ◌+◌, ◌<◌, ◌∙◌, ◌∷◌, ◌≡◌, ◌≤◌}
+use Rattle.std.proofs.Common.{List, Option, [], ap, arith, length, refl, rules, slice_index_or, subst, suc, sym, true, ℕ, ◌++◌, ◌+◌, ◌∙◌, ◌∷◌, ◌≡◌, ◌≤◌}
 use Rattle.std.specs.Global.{Global}
 use Rattle.std.specs.Prelude.{Vec}
 use Rattle.std.proofs.Math.Logic.{∥∥₁_map}
@@ -22,7 +22,7 @@ use Rattle.nv_workers.specs.declared.board_name.BoardName.{Ghosts as BoardGhosts
 use Rattle.save_device.specs.declared.device.SaveDevice.{Ghosts as DeviceGhosts}
 use Rattle.split_module.specs.declared.front.SplitFront.{SplitFront}
 use Rattle.board_desk.specs.Answering.{SameElsewhere, Settles, SettlesPart}
-use Rattle.board_desk.specs.Asking.{CameBy, pieces_with}
+use Rattle.board_desk.specs.Asking.{pieces_with}
 use Rattle.board_desk.specs.Calling.{Course}
 use Rattle.board_desk.specs.Desk.{DeskView, desk_view}
 use Rattle.board_desk.specs.Kept.{IsDeskKept}

@@ -6,7 +6,6 @@ use Rattle.atomic_table.specs.Seated.{TableId}
 use Rattle.channel_locks.specs.declared.parts_name.PartsName.{Ghosts as PartsGhosts}
 use Rattle.channel_locks.specs.Lent.{IsLentBy}
 use Rattle.channel_locks.specs.Unlocked.{issued_by, ports_in}
-use Rattle.channel_log.specs.Log.{LogNote}
 use Rattle.channel_log.specs.Seats.{AllLogs}
 use Rattle.channel_part.specs.declared.part.Part.{Part}
 use Rattle.channel_port.specs.declared.port.ChannelPort.{Ghosts}

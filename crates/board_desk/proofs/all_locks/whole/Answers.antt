@@ -1,5 +1,5 @@
 -- A call of the whole module.
-use Rattle.std.proofs.Common.{ap, map, refl, subst, sym, ℕ, ◌∙◌, ◌≡◌}
+use Rattle.std.proofs.Common.{ap, map, refl, subst, sym, ◌∙◌, ◌≡◌}
 use Rattle.line_memory.specs.History.{Recorded}
 use Rattle.module_core.specs.declared.front.Front.{Front}
 use Rattle.board_desk.specs.Locking.{CallTells}

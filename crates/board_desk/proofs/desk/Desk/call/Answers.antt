@@ -1,5 +1,5 @@
 -- A call of the module, once all ports were lent.
-use Rattle.std.proofs.Common.{ap, subst, sym, ◌∙◌, ◌≡◌}
+use Rattle.std.proofs.Common.{ap, subst, sym, ◌∙◌}
 use Rattle.std.specs.Arc.{arc_value}
 use Rattle.channel_log.specs.Seats.{AllLogs}
 use Rattle.board_desk.specs.Asking.{pieces_with}

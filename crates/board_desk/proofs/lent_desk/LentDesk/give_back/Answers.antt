@@ -1,7 +1,7 @@
 -- A channel has its port back behind a call.
 use Rattle.std.proofs.Common.{ap, arith, subst, sym, ◌∙◌, ◌≡◌}
 use Rattle.arm_state.specs.Modes.{has_ended}
-use Rattle.channel_log.specs.Log.{Told, log_tells}
+use Rattle.channel_log.specs.Log.{log_tells}
 use Rattle.channel_log.specs.Seats.{AllLogs}
 use Rattle.split_module.specs.declared.front.SplitFront.{SplitFront}
 use Rattle.channel_set.specs.declared.terms.PortTerms.{PortTerms}

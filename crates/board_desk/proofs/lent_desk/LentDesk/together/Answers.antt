@@ -2,10 +2,8 @@
 use Rattle.std.proofs.Common.{ap, ◌∙◌}
 use Rattle.mark_board.specs.SeenMarks.{seen_marks}
 use Rattle.board_desk.specs.Asking.{pieces_with}
-use Rattle.board_desk.specs.Desk.{DeskView}
-use Rattle.board_desk.proofs.Frames.{APieces, all_restated, did_then}
+use Rattle.board_desk.proofs.Frames.{all_restated, did_then}
 use Rattle.board_desk.proofs.KeptWhole.{call_answers, kept_whole, shows_whole}
-use Rattle.board_desk.proofs.lent_desk.LentDesk.together.Given.{Over}
 use Rattle.board_desk.proofs.lent_desk.LentDesk.together.Goals as goal
 
 pub publish-requires-clause-shown : goal.publish-requires-clause-shown
