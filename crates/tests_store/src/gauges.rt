@@ -5,7 +5,9 @@ use crate::check::same;
 use ddr4_timing::command::Command;
 use ddr4_timing::profiles::{SMALL, TINY};
 use ddr4_timing::timing::Checked;
-use energy_budget::{Action, CostNumbers, Costs, Dark, Energy, Meter, TINY_COSTS, Wild};
+use energy_budget::{
+    Action, CostNumbers, Costs, Dark, Energy, Meter, PAGE_LINES, TINY_COSTS, Wild,
+};
 use std::process::Abort;
 
 fn tiny<R: Abort>(rt: &R) -> Checked {
@@ -31,6 +33,11 @@ fn alike(e: u64) -> CostNumbers
         e_digest: e,
         leak: e,
     }
+}
+
+#[test]
+fn a_page_that_is_paid_for_is_one_of_an_image(rt: HostRuntime) {
+    same(&rt, PAGE_LINES, save_image::PAGE_LINES as u64);
 }
 
 #[test]
