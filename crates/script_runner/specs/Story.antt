@@ -94,3 +94,7 @@ GivesOut (fault.Line number) = ⊥
 -- refused none, and there was no memory for the device or for a life.
 abbrev pub EndsBy : ScriptFault → List ScriptFault → List ScriptFault → Type 0
 EndsBy why old new = (GivesOut why × (new ≡ old ++ why ∷ [])) ⊎ ((why ≡ fault.Memory) × (new ≡ old))
+
+-- a report that continued an earlier one does so still
+abbrev pub GoesOn : {R : Type 0} → (R → R → Type 0) → R → R → Type 0
+GoesOn {R} continues old new = (earlier : R) → continues earlier old → continues earlier new

@@ -1,8 +1,8 @@
 // Where the answers to a script go.
-ghost use Rattle.std.specs.Prelude.{◌≡◌, List, [], ◌∷◌, ◌++◌, OnOk, IfErr};
+ghost use Rattle.std.specs.Prelude.{◌≡◌, List, [], ◌∷◌, ◌++◌, OnOk, IfErr, ⊤};
 ghost use Rattle.nv_script.specs.declared.answer.Answer.{Answer};
 ghost use Rattle.nv_script.specs.declared.reading.ScriptFault.{ScriptFault};
-ghost use Rattle.script_runner.specs.Story.{GivesOut};
+ghost use Rattle.script_runner.specs.Story.{GivesOut, GoesOn};
 
 use ghost_trace::Trace;
 use nv_script::{Answer, ScriptFault};
@@ -16,11 +16,15 @@ pub trait Report {
     /// The faults by which answers were refused, the oldest first.
     ghost refusals: { Self → List ScriptFault };
 
+    /// That it continues an earlier report, by what each answer that is taken leaves so.
+    ghost continues: { Self → Self → Type 0 } = { λ _ _. ⊤ };
+
     /// Takes the next answer. Refused, it takes nothing: by `Writer` where it couldn't be written, by `Memory` for want of that.
     fn answer(&mut self, answer: Answer) -> Result<(), ScriptFault>
         ensures taken { OnOk result (answers self.new ≡ answers self.old ++ answer ∷ []) }
         ensures refused { IfErr result (λ fault. answers self.new ≡ answers self.old) }
         ensures unrefused { OnOk result (refusals self.new ≡ refusals self.old) }
+        ensures continued { OnOk result (GoesOn continues self.old self.new) }
         ensures told { IfErr result (λ fault. refusals self.new ≡ refusals self.old ++ fault ∷ []) }
         ensures fault { IfErr result GivesOut };
 }

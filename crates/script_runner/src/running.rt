@@ -10,7 +10,7 @@ ghost use Rattle.script_runner.specs.Ended.{nothing};
 ghost use Rattle.script_runner.specs.Wiring.{IsMapOf, IsWiredFor};
 ghost use Rattle.script_runner.specs.Runs.{IsKeptRun, IsKeptRunOn, IsRun};
 ghost use Rattle.script_runner.specs.Scripts.{EndsScript, EndsScriptBy, IsBadText, RunsScript};
-ghost use Rattle.script_runner.specs.Story.{AreAllAnswered, AreCutShort, EndsBy};
+ghost use Rattle.script_runner.specs.Story.{AreAllAnswered, AreCutShort, EndsBy, GoesOn};
 
 use crate::book::CommandBook;
 use crate::report::{Printer, Report};
@@ -50,6 +50,7 @@ pub fn run_lines<M: LineMap, R: Report>(
     ensures cut { IfErr result (λ fault. AreCutShort (lines_of profile.now.checked.geometry)
         lines.now (R.answers report.old) (R.answers report.new)) }
     ensures unrefused { OnOk result (R.refusals report.new ≡ R.refusals report.old) }
+    ensures continued { OnOk result (GoesOn R.continues report.old report.new) }
     ensures fault { IfErr result (λ fault. EndsBy fault
         (R.refusals report.old) (R.refusals report.new)) }
 {
@@ -77,6 +78,7 @@ pub fn do_lines<'m, M: LineMap, R: Report>(
     ensures cut { IfErr result (λ fault. AreCutShort (lines_of profile.now.checked.geometry)
         lines.now (R.answers report.old) (R.answers report.new)) }
     ensures unrefused { OnOk result (R.refusals report.new ≡ R.refusals report.old) }
+    ensures continued { OnOk result (GoesOn R.continues report.old report.new) }
     ensures fault { IfErr result (λ fault. EndsBy fault
         (R.refusals report.old) (R.refusals report.new)) }
 {
@@ -107,6 +109,7 @@ pub fn do_lines_kept<'m, M: LineMap, R: Report>(
     ensures cut { IfErr result (λ fault. AreCutShort (lines_of profile.now.checked.geometry)
         lines.now (R.answers report.old) (R.answers report.new)) }
     ensures unrefused { OnOk result (R.refusals report.new ≡ R.refusals report.old) }
+    ensures continued { OnOk result (GoesOn R.continues report.old report.new) }
     ensures fault { IfErr result (λ fault. EndsBy fault
         (R.refusals report.old) (R.refusals report.new)) }
 {
@@ -148,6 +151,7 @@ pub fn do_lines_on<'m, M: LineMap, R: Report>(
     ensures cut { IfErr result (λ fault. AreCutShort (lines_of profile.now.checked.geometry)
         lines.now (R.answers report.old) (R.answers report.new)) }
     ensures unrefused { OnOk result (R.refusals report.new ≡ R.refusals report.old) }
+    ensures continued { OnOk result (GoesOn R.continues report.old report.new) }
     ensures fault { IfErr result (λ fault. EndsBy fault
         (R.refusals report.old) (R.refusals report.new)) }
 {
@@ -177,6 +181,7 @@ pub fn answer_script<'m, M: LineMap, R: Report>(
     ensures ends { IfErr result (λ fault. EndsScript profile.now.checked.geometry script.now fault
         (R.answers report.old) (R.answers report.new)) }
     ensures unrefused { OnOk result (R.refusals report.new ≡ R.refusals report.old) }
+    ensures continued { OnOk result (GoesOn R.continues report.old report.new) }
     ensures fault { IfErr result (λ fault. EndsScriptBy fault
         (R.refusals report.old) (R.refusals report.new)) }
 {

@@ -6,7 +6,7 @@ ghost use Rattle.script_runner.specs.Doing.{Does};
 ghost use Rattle.script_runner.specs.Ended.{Notes, ended_by, kept_before, kept_last, lists_in, nothing, of_lives};
 ghost use Rattle.script_runner.specs.Issued.{KeepsRules};
 ghost use Rattle.script_runner.specs.Runs.{AreAllNoted, DoesLine};
-ghost use Rattle.script_runner.specs.Story.{AreCutShort, EndsBy};
+ghost use Rattle.script_runner.specs.Story.{AreCutShort, EndsBy, GoesOn};
 ghost use Rattle.script_runner.specs.Keeping.{AnswersTruly, AnswersPart};
 
 use crate::answers::{
@@ -43,6 +43,7 @@ where
     ensures cut { IfErr result (λ fault. AreCutShort (line_count_in session.old)
         lines.now (R.answers report.old) (R.answers report.new)) }
     ensures unrefused { OnOk result (R.refusals report.new ≡ R.refusals report.old) }
+    ensures continued { OnOk result (GoesOn R.continues report.old report.new) }
     ensures fault { IfErr result (λ fault. EndsBy fault
         (R.refusals report.old) (R.refusals report.new)) }
 {
@@ -153,6 +154,7 @@ where
     ensures part { IfErr result (λ fault. AnswersPart K.ChannelPort (line_count_in session.old) line
         (R.answers report.old) (R.answers report.new) (moment_in session.old)) }
     ensures unrefused { OnOk result (R.refusals report.new ≡ R.refusals report.old) }
+    ensures continued { OnOk result (GoesOn R.continues report.old report.new) }
     ensures fault { IfErr result (λ fault. EndsBy fault
         (R.refusals report.old) (R.refusals report.new)) }
     ensures profile { session.new.profile ≡ session.old.profile }

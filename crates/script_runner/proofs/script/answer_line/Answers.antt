@@ -9,6 +9,7 @@ pub loop-turn-init : goal.loop-turn-init
 loop-turn-init g c = record {
   profile = refl;
   unrefused = refl;
+  continued = λ earlier was. was;
   turns = does_begin (line_count_in c.args.session.now) c.args.line (g.R.Report.answers c.args.report.now) c.args.session.now;
 }
 
@@ -26,6 +27,7 @@ loop-turn-preserved g c =
     record {
       profile = c.answer_of.ensures.profile ∙ c.loop-turn.invariant.profile;
       unrefused = c.in_ok-answer-2.ensures.unrefused ∙ c.loop-turn.invariant.unrefused;
+      continued = λ earlier was. c.in_ok-answer-2.ensures.continued earlier (c.loop-turn.invariant.continued earlier was);
       turns = does_grow (line_count_in old) c.args.line (line_count_in mid) (ap (λ (profile : Profile). lines_of profile.checked.geometry) c.loop-turn.invariant.profile) c.loop-turn._turn
           c.in_ok-answer.answer (answers c.args.report.now) (answers c.loop-turn.report) (answers c.answer.new.self) old mid c.answer_of.new.session
           c.loop-turn.invariant.turns c.in_ok-answer.ensures.truly c.in_ok-answer.ensures.does (record { profile = c.answer_of.ensures.profile; wires = c.answer_of.ensures.wires }) c.in_ok-answer-2.ensures.taken (sym c.is_busy.ensures ∙ c.if-not-is_busy.false);

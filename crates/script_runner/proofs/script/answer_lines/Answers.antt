@@ -23,6 +23,7 @@ pub loop-line-init : goal.loop-line-init
 loop-line-init g c = record {
   profile = refl;
   unrefused = refl;
+  continued = λ earlier was. was;
   done = notes_begin (line_count_in c.args.session.now) (g.R.Report.answers c.args.report.now) c.args.session.now (g.B.LifeBook.kept c.args.book.now) c.requires.book;
 }
 
@@ -32,6 +33,7 @@ loop-line-preserved g c =
     record {
       profile = c.answer_line.ensures.profile ∙ c.loop-line.invariant.profile;
       unrefused = c.in_ok-answer_line.ensures.unrefused ∙ c.loop-line.invariant.unrefused;
+      continued = λ earlier was. c.in_ok-answer_line.ensures.continued earlier (c.loop-line.invariant.continued earlier was);
       done = notes_grow (line_count_in old) (line_count_in mid) (ap (λ (profile : Profile). lines_of profile.checked.geometry) c.loop-line.invariant.profile) c.args.lines.now c.loop-line.line-index Format
           (answers c.args.report.now) (answers c.loop-line.report) (answers c.answer_line.new.report) (kept c.loop-line.book) (kept c.note_line.new.book) old mid c.answer_line.new.session
           c.loop-line-test.true c.loop-line.invariant.done c.in_ok-answer_line.ensures.done c.note_line.ensures.notes c.note_line.ensures.rules;
