@@ -2,6 +2,8 @@
 #![tactic(auto)]
 
 #[cfg(test)]
+mod ahead;
+#[cfg(test)]
 mod amid;
 #[cfg(test)]
 mod cases;
@@ -13,6 +15,8 @@ mod gates;
 mod inside;
 #[cfg(test)]
 mod locks;
+#[cfg(test)]
+mod noted;
 #[cfg(test)]
 mod orders;
 #[cfg(test)]
