@@ -2,9 +2,10 @@
 ghost use Rattle.std.specs.Prelude.{◌≡◌, ◌↔◌, [], Err, false, IfErr, IfOk};
 ghost use Rattle.std.specs.Process.{exit_status};
 ghost use Rattle.command_trace.specs.Channels.{AreLawful, FollowsAll};
+ghost use Rattle.command_trace.specs.Sources.{bytes_of};
+ghost use Rattle.command_trace.specs.Traces.{AreCommandsOf};
 ghost use Rattle.command_faults.specs.declared.fault.ProgramFault.TheVariants.{EmptyTrace};
-ghost use Rattle.command_line.specs.Check.{HasVerdict, HasVerdictBy, IsOfTrace, IsSourceNamed};
-ghost use Rattle.command_line.specs.Verbs.{profile_word};
+ghost use Rattle.command_line.specs.Check.{HasVerdict, HasVerdictBy, IsOfTrace, IsReadAs, IsSourceNamed};
 
 use crate::command::{status_by, word_or};
 use crate::forms::form_asked;
@@ -29,7 +30,7 @@ pub(crate) fn check<'a, R, W>(
 where
     R: Files + FileHost + AllocGlobal,
     W: Write,
-    ensures { IfOk result (HasVerdictBy (R.gives rt.now) (profile_word matches.now)) }
+    ensures { IfOk result (HasVerdictBy (R.gives rt.now) matches.now) }
 {
     let rules = rules_of(rt, word_or(matches, "PROFILE", "tiny"))?;
     let form = form_asked(rt.alloc(), matches)?;
@@ -78,6 +79,20 @@ struct Asked {
     stats: bool,
 }
 
+// The form in which a trace is read: the one that is asked for, or where none is, the trace's own.
+fn form_read<R: Files + AllocGlobal>(
+    rt: &R,
+    source: &Source<'_>,
+    asked: Asked,
+) -> Result<Form, TraceFault>
+    ensures { IfOk result (IsReadAs asked.form asked.others) }
+{
+    match asked.form {
+        Some(form) => Ok(form),
+        None => source.form(rt, asked.others),
+    }
+}
+
 // Checks a trace and writes what that tells, where the trace isn't one without a command that is to have some.
 fn write_check<R: Files + AllocGlobal, W: Write>(
     rt: &R,
@@ -86,12 +101,10 @@ fn write_check<R: Files + AllocGlobal, W: Write>(
     rules: &CommandRules,
     writer: &mut W,
 ) -> Result<Result<ExitCode, Failure<'static>>, TraceFault>
-    ensures { IfOk result (λ checked. IfOk checked (HasVerdict rules.now)) }
+    ensures { IfOk result (λ checked. IfOk checked
+        (HasVerdict rules.now source.now asked.form asked.others)) }
 {
-    let form = match asked.form {
-        Some(form) => form,
-        None => source.form(rt, asked.others)?,
-    };
+    let form = form_read(rt, source, asked)?;
     if !asked.stats {
         let check = source.check(rt, form, rules)?;
         return write_checked(rt, source, form, asked, rules, &check, writer);
@@ -118,8 +131,10 @@ fn write_checked<R: Files + AllocGlobal, W: Write>(
     check: &TraceCheck,
     writer: &mut W,
 ) -> Result<Result<ExitCode, Failure<'static>>, TraceFault>
-    ensures { FollowsAll rules.now check.now
-        → IfOk result (λ checked. IfOk checked (HasVerdict rules.now)) }
+    ensures { FollowsAll rules.now check.now → IsReadAs asked.form asked.others form
+        → AreCommandsOf form (bytes_of source.now) check.now.given.items
+        → IfOk result (λ checked. IfOk checked
+        (HasVerdict rules.now source.now asked.form asked.others)) }
 {
     match verdict(check, rules, asked.allows_empty) {
         Ok(code) => {
