@@ -6,3 +6,4 @@ pub mod ToldLives
 pub mod FlawLemmas
 pub mod StoodFor
 pub mod Turns
+pub mod Knots

@@ -7,6 +7,8 @@ pub mod Schedules
 pub mod Events
 pub mod Telling
 pub mod Range
+pub mod Axes
+pub mod Placings
 pub mod Flaws
 pub mod Traces
 pub mod Layouts

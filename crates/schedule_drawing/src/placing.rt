@@ -1,4 +1,7 @@
 // The lines in which the texts of events stand.
+ghost use Rattle.std.specs.Prelude.{◌≡◌, ◌++◌, ◌∷◌, [], filter, length, map, IfOk, OnOk};
+ghost use Rattle.schedule_drawing.specs.Placings.{is_kind, text_at, text_of, text_placed};
+
 use crate::axis::Axis;
 use crate::schedule::{EventKind, ScheduleEvent};
 use std::alloc::{AllocError, Global};
@@ -22,27 +25,46 @@ pub(crate) struct Placing<'a> {
     free: Vec<u64>,
 }
 
+// Is it an event of the kind?
+fn is_of_kind(event: &ScheduleEvent, kind: EventKind) -> bool
+    ensures { result ≡ is_kind kind event.now.kind }
+{
+    match kind {
+        EventKind::Device => matches!(event.kind, EventKind::Device),
+        EventKind::Mode => matches!(event.kind, EventKind::Mode),
+    }
+}
+
 impl<'a> Placing<'a> {
-    /// In the order of their clocks.
+    /// Each event of the kind in its turn, with its text, where its clock stands.
     pub(crate) fn of(
         alloc: Global,
         axis: &Axis,
         events: &'a [ScheduleEvent],
         kind: EventKind,
-    ) -> Result<Placing<'a>, AllocError> {
+    ) -> Result<Placing<'a>, AllocError>
+        ensures { IfOk result (λ placing. map text_placed placing.placed.items
+            ≡ map (text_of axis.now.knots.items)
+            (filter (λ event. is_kind kind event.kind) events.now)) }
+    {
         let mut placing = Placing {
             placed: Vec::new(alloc),
             free: Vec::new(alloc),
         };
-        for event in events {
-            if event.kind == kind {
+        let mut left = events;
+        while let [event, behind @ ..] = left {
+            if is_of_kind(event, kind) {
                 placing.place(axis.x(event.clock), &event.text)?;
             }
+            left = behind;
         }
         Ok(placing)
     }
 
-    fn place(&mut self, x: u64, text: &'a str) -> Result<(), AllocError> {
+    fn place(&mut self, x: u64, text: &'a str) -> Result<(), AllocError>
+        ensures { OnOk result (map text_placed self.new.placed.items
+            ≡ map text_placed self.old.placed.items ++ text_at x text.now ∷ []) }
+    {
         let letters = text.len() as u64;
         let end = x
             .saturating_add(letters.saturating_mul(LETTER))
@@ -68,7 +90,9 @@ impl<'a> Placing<'a> {
     }
 
     /// How many lines it takes.
-    pub(crate) fn lines(&self) -> u64 {
+    pub(crate) fn lines(&self) -> u64
+        ensures { result ≡ length self.now.free.items }
+    {
         self.free.len() as u64
     }
 }
