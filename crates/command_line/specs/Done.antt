@@ -11,11 +11,11 @@ use Rattle.command_line.specs.Lint.{TellsBadLines}
 use Rattle.command_line.specs.Profile.{ExplainsProfile}
 use Rattle.command_line.specs.Store.{ShowsNamed}
 use Rattle.command_line.specs.Verbs.{profile_word, schedule_word, script_word, word_of}
-use Rattle.run_command.specs.Whole.{IsRunWhole}
+use Rattle.run_command.specs.Whole.{IsToldRun}
 
 -- each verb that tells something of what its words name told that of them, and the status is as it came out
 pub record IsDone (gives : List ℕ → List ℕ → Type 0) (verb : List ℕ) (matches : ArgMatches) (code : ExitCode) (old new : Option (List ℕ)) : Type 0 where
-  pub run : verb ≡ codes "run" → (exit_status code ≡ 0) × OfScriptNamed gives (profile_word matches) (script_word matches) IsRunWhole
+  pub run : verb ≡ codes "run" → (exit_status code ≡ 0) × OfScriptNamed gives (profile_word matches) (script_word matches) (IsToldRun old new)
   pub live : verb ≡ codes "live" → (exit_status code ≡ 0) × HasProfile gives (profile_word matches)
   pub show : verb ≡ codes "show" → ShowsNamed gives (word_of matches (codes "STORE") (codes "-")) code
   pub lint : verb ≡ codes "lint" → OfScriptNamed gives (profile_word matches) (script_word matches)

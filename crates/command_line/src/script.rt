@@ -3,7 +3,7 @@ ghost use Rattle.std.specs.Prelude.{◌≡◌, IfOk};
 ghost use Rattle.std.specs.Process.{exit_status};
 ghost use Rattle.command_faults.specs.Named.{OfScriptNamed};
 ghost use Rattle.command_line.specs.Verbs.{profile_word, script_word};
-ghost use Rattle.run_command.specs.Whole.{IsRunWhole};
+ghost use Rattle.run_command.specs.Whole.{IsToldRun};
 
 use crate::command::word_or;
 use clap::ArgMatches;
@@ -24,7 +24,8 @@ where
     R: Files + FileHost + StoreHost + AllocGlobal,
     W: Write,
     ensures { IfOk result (λ code. (exit_status code ≡ 0) × OfScriptNamed (R.gives rt.now)
-        (profile_word matches.now) (script_word matches.now) IsRunWhole) }
+        (profile_word matches.now) (script_word matches.now)
+        (IsToldRun (W.contents writer.old) (W.contents writer.new))) }
 {
     let words = words_asked(matches)?;
     run_named(rt, words, writer)?;

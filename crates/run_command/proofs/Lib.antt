@@ -2,3 +2,4 @@ pub mod Ways
 mod Stores
 pub mod Steps
 pub mod Written
+mod Growing

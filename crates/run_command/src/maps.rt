@@ -5,6 +5,7 @@ ghost use Rattle.ddr4_timing.specs.Places.{LiesIn};
 ghost use Rattle.interleave_map.specs.Ready.{place_by};
 ghost use Rattle.run_command.specs.Whole.{RunsWhole};
 ghost use Rattle.script_runner.specs.Ended.{nothing};
+ghost use Rattle.script_runner.specs.Story.{GoesOn};
 
 use crate::printer::AnswerPrinter;
 use ddr4_timing::place::Place;
@@ -45,8 +46,9 @@ pub fn report_on_maps<R: Report>(
     book: &mut CommandBook,
 ) -> Result<MemoryDevice, ScriptFault>
     requires { IfSome book.old (λ kept. kept ≡ nothing) }
-    ensures { OnOk result (RunsWhole profile.now script.now
+    ensures whole { OnOk result (RunsWhole profile.now script.now
         (R.answers report.old) (R.answers report.new)) }
+    ensures continued { OnOk result (GoesOn R.continues report.old report.new) }
 {
     let lines = read_script(alloc, script, &profile.checked.geometry)?;
     let ways = |ready: ReadyMap| {

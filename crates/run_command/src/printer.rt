@@ -1,8 +1,8 @@
 // Answers, each written as a line.
 ghost use Rattle.std.specs.Prelude.{◌≡◌, ◌∷◌, ◌++◌, [], IfErr, IfSome, OnOk};
 ghost use Rattle.std.specs.Io.KnownBytes.{Appends};
-ghost use Rattle.run_command.specs.Forms.{line_in};
-ghost use Rattle.script_runner.specs.Story.{GivesOut};
+ghost use Rattle.run_command.specs.Forms.{WritesMore, line_in};
+ghost use Rattle.script_runner.specs.Story.{GivesOut, GoesOn};
 
 use answer_json::{write_answer, write_line};
 use ghost_trace::Trace;
@@ -29,6 +29,8 @@ impl<'w, W: io::Write> AnswerPrinter<'w, W> {
         ensures answers { ⟦<AnswerPrinter<'w, W> as Report>⟧.answers result ≡ [] }
         ensures refusals { ⟦<AnswerPrinter<'w, W> as Report>⟧.refusals result ≡ [] }
         ensures form { result.is_json ≡ is_json }
+        ensures same_reference { result.writer.ghost_name ≡ writer.entry.ghost_name }
+        ensures writer { result.writer.now ≡ writer.old }
     {
         AnswerPrinter {
             alloc,
@@ -42,7 +44,9 @@ impl<'w, W: io::Write> AnswerPrinter<'w, W> {
     /// Keeps the answers from now on, as far as there is memory for them; it has told none yet.
     pub fn keep(&mut self)
         requires { ⟦<AnswerPrinter<'w, W> as Report>⟧.answers self.old ≡ [] }
-        ensures { ⟦<AnswerPrinter<'w, W> as Report>⟧.answers self.new ≡ [] }
+        ensures answers { ⟦<AnswerPrinter<'w, W> as Report>⟧.answers self.new ≡ [] }
+        ensures form { self.new.is_json ≡ self.old.is_json }
+        ensures writer { self.new.writer ≡ self.old.writer }
     {
         self.taken.keep(self.alloc);
     }
@@ -55,10 +59,21 @@ impl<'w, W: io::Write> AnswerPrinter<'w, W> {
         self.taken.kept()
     }
 
+    /// The writer, as the answers left it.
+    pub fn into_writer(self) -> &'w mut W
+        ensures same_reference { result.ghost_name ≡ self.entry.writer.ghost_name }
+        ensures writer { result.now ≡ self.entry.writer.now }
+    {
+        let AnswerPrinter { writer, .. } = self;
+        writer
+    }
+
     /// Writes out what its writer has taken.
     pub fn flush(&mut self) -> Result<(), ScriptFault>
-        ensures { ⟦<AnswerPrinter<'w, W> as Report>⟧.answers self.new
+        ensures answers { ⟦<AnswerPrinter<'w, W> as Report>⟧.answers self.new
             ≡ ⟦<AnswerPrinter<'w, W> as Report>⟧.answers self.old }
+        ensures continued { GoesOn ⟦<AnswerPrinter<'w, W> as Report>⟧.continues
+            self.old self.new }
     {
         match self.writer.flush() {
             Ok(()) => Ok(()),
@@ -72,6 +87,7 @@ impl<'w, W: io::Write> AnswerPrinter<'w, W> {
             (W.contents self.new.writer.now)
             (line_in self.old.is_json answer.now ++ 10 ∷ [])) }
         ensures same_reference { self.new.writer.ghost_name ≡ self.old.writer.ghost_name }
+        ensures form { self.new.is_json ≡ self.old.is_json }
         ensures taken { self.new.taken ≡ self.old.taken }
         ensures refused { self.new.refused ≡ self.old.refused }
         ensures fault { IfErr result GivesOut }
@@ -88,6 +104,13 @@ impl<'w, W: io::Write> Report for AnswerPrinter<'w, W> {
     ghost answers = { λ printer. printer.taken.items };
 
     ghost refusals = { λ printer. printer.refused.items };
+
+    // over the same writer, which got the lines of all answers that were taken since
+    ghost continues = { λ earlier printer.
+        (printer.writer.ghost_name ≡ earlier.writer.ghost_name)
+        × (printer.is_json ≡ earlier.is_json)
+        × WritesMore earlier.is_json earlier.taken.items printer.taken.items
+        (W.contents earlier.writer.now) (W.contents printer.writer.now) };
 
     fn answer(&mut self, answer: Answer) -> Result<(), ScriptFault> {
         match self.write(&answer) {

@@ -1,22 +1,22 @@
 // A script, run.
-ghost use Rattle.std.specs.Prelude.{◌≡◌, ◌⊎◌, ◌↔◌, codes, IfOk, IfSome, IsErrAnd, IsSome, OnOk};
+ghost use Rattle.std.specs.Prelude.{◌≡◌, ◌⊎◌, ◌↔◌, [], None, codes, false, IfOk, IfSome, IsErrAnd, IsSome, OnOk};
 ghost use Rattle.command_faults.specs.Exit.{status_of};
 ghost use Rattle.command_faults.specs.Named.{OfScriptNamed};
 ghost use Rattle.run_command.specs.Refused.{IsNoStore, NamesNoCommands, NamesNoStore};
-ghost use Rattle.run_command.specs.Whole.{IsRunWhole, RunsWhole};
+ghost use Rattle.run_command.specs.Whole.{IsRunTold, RunsWhole, WritesRun};
 ghost use Rattle.script_runner.specs.Ended.{nothing};
+ghost use Rattle.script_runner.specs.Story.{GoesOn};
 
 use crate::lives::write_lives;
 use crate::maps::report_on_maps;
 use crate::printer::AnswerPrinter;
-use crate::requests::waits_of_lives;
-use crate::statistics::write_statistics;
+use crate::statistics::write_behind;
 use crate::stored::{StoredFault, bytes_of_device, run_on_store};
-use command_faults::{Failure, FileHost, ProgramFault, Reason, flush, is_one_file, profile_of};
+use command_faults::{Failure, FileHost, ProgramFault, Reason, is_one_file, profile_of};
 use file_device::OpenFault;
 use interleave_map::{Interleaving, ReadyMap};
 use nv_profile::Profile;
-use nv_script::{Answer, SCRIPT_BYTES, read_script};
+use nv_script::{Answer, SCRIPT_BYTES};
 use save_device::MemoryDevice;
 use script_runner::{CommandBook, Report};
 use std::alloc::Global;
@@ -60,7 +60,9 @@ where
         → (writer.new ≡ writer.old)
         × IsErrAnd result (λ failure. status_of failure.fault ≡ 2) }
     ensures run { IfOk result (λ _. OfScriptNamed (R.gives rt.now)
-        words.entry.profile.now words.entry.script.now IsRunWhole) }
+        words.entry.profile.now words.entry.script.now
+        (IsRunTold words.entry.is_json words.entry.stats
+        (W.contents writer.old) (W.contents writer.new))) }
 {
     if let Some(store) = words.store {
         if let Some(fault) = refusal(rt, store, words.profile, words.script) {
@@ -79,7 +81,9 @@ where
     R: Files + FileHost + StoreHost + AllocGlobal,
     W: Write,
     ensures { IfOk result (λ _. OfScriptNamed (R.gives rt.now)
-        words.entry.profile.now words.entry.script.now IsRunWhole) }
+        words.entry.profile.now words.entry.script.now
+        (IsRunTold words.entry.is_json words.entry.stats
+        (W.contents writer.old) (W.contents writer.new))) }
 {
     let profile = profile_of(rt, words.profile)?;
     // as far as a good script can need them
@@ -98,7 +102,8 @@ fn run_read<'a, R, W>(
 where
     R: Files + StoreHost + AllocGlobal,
     W: Write,
-    ensures { IfOk result (λ _. IsRunWhole profile.now script.now) }
+    ensures { IfOk result (λ _. IsRunTold words.entry.is_json words.entry.stats
+        (W.contents writer.old) (W.contents writer.new) profile.now script.now) }
 {
     let mut book = book_for(rt.alloc(), words);
     let answers = run_words(rt, profile, script, words, writer, &mut book)?;
@@ -108,20 +113,15 @@ where
     let Some(run) = book.into_run() else {
         return Err(Failure::from(ProgramFault::Memory));
     };
-    if let Some(answers) = answers {
-        let lines = read_script(rt.alloc(), script, &profile.checked.geometry)?;
-        let waits = waits_of_lives(rt.alloc(), profile, &lines, &answers, &run)?;
-        let rules = profile.checked.rules();
-        write_statistics(
-            rt.alloc(),
-            &rules,
-            run.lives(),
-            &waits,
-            words.is_json,
-            writer,
-        )?;
-        flush(writer)?;
-    }
+    write_behind(
+        rt.alloc(),
+        profile,
+        script,
+        answers,
+        &run,
+        words.is_json,
+        writer,
+    )?;
     match words.commands {
         Some(name) => write_lives(rt, run.lives(), name),
         None => Ok(()),
@@ -158,20 +158,51 @@ where
     R: Files + StoreHost + AllocGlobal,
     W: Write,
     requires { IfSome book.old (λ kept. kept ≡ nothing) }
-    ensures { IfOk result (λ _. IsRunWhole profile.now script.now) }
+    ensures told { IfOk result (λ _. WritesRun words.entry.is_json
+        (W.contents writer.old) (W.contents writer.new) profile.now script.now) }
+    ensures alone { IfOk result (λ answers. words.entry.stats ≡ false → answers ≡ None) }
 {
-    let mut printer = AnswerPrinter::new(rt.alloc(), words.is_json, writer);
-    if words.stats {
-        printer.keep();
-    }
+    let mut printer = printer_for(rt.alloc(), words, writer);
     run_to_store(rt, profile, script, words.store, &mut printer, book)?;
-    if !words.stats {
+    let answers = kept_answers(rt.alloc(), words.stats, &printer)?;
+    // the writer is as the printer leaves it
+    let _writer = printer.into_writer();
+    Ok(answers)
+}
+
+// A copy of the answers that a printer kept, where they are asked for.
+fn kept_answers<'a, 'w, W: Write>(
+    alloc: Global,
+    is_asked: bool,
+    printer: &AnswerPrinter<'w, W>,
+) -> Result<Option<Vec<Answer>>, Failure<'a>>
+    ensures { IfOk result (λ answers. is_asked ≡ false → answers ≡ None) }
+{
+    if !is_asked {
         return Ok(None);
     }
     match printer.answers() {
-        Some(answers) => Ok(Some(answers.to_vec(rt.alloc())?)),
+        Some(answers) => Ok(Some(answers.to_vec(alloc)?)),
         None => Err(Failure::from(ProgramFault::Memory)),
     }
+}
+
+// What writes the answers as the words say, and keeps them where statistics are to be made of them.
+fn printer_for<'w, W: Write>(
+    alloc: Global,
+    words: RunWords<'_>,
+    writer: &'w mut W,
+) -> AnswerPrinter<'w, W>
+    ensures answers { ⟦<AnswerPrinter<'w, W> as Report>⟧.answers result ≡ [] }
+    ensures form { result.is_json ≡ words.entry.is_json }
+    ensures same_reference { result.writer.ghost_name ≡ writer.entry.ghost_name }
+    ensures writer { result.writer.now ≡ writer.old }
+{
+    let mut printer = AnswerPrinter::new(alloc, words.is_json, writer);
+    if words.stats {
+        printer.keep();
+    }
+    printer
 }
 
 // Runs a script, writes out the answers, and leaves the device in the file of the store.
@@ -187,9 +218,11 @@ where
     R: Files + StoreHost + AllocGlobal,
     W: Write,
     requires { IfSome book.old (λ kept. kept ≡ nothing) }
-    ensures { OnOk result (RunsWhole profile.now script.now
+    ensures whole { OnOk result (RunsWhole profile.now script.now
         (⟦<AnswerPrinter<'w, W> as Report>⟧.answers printer.old)
         (⟦<AnswerPrinter<'w, W> as Report>⟧.answers printer.new)) }
+    ensures continued { OnOk result (GoesOn ⟦<AnswerPrinter<'w, W> as Report>⟧.continues
+        printer.old printer.new) }
 {
     match store {
         Some(StoreWord::Kept(name)) => run_kept(rt, profile, script, name, printer, book),
@@ -213,9 +246,11 @@ fn run_told<'a, 'w, W: Write>(
     book: &mut CommandBook,
 ) -> Result<MemoryDevice, Failure<'a>>
     requires { IfSome book.old (λ kept. kept ≡ nothing) }
-    ensures { OnOk result (RunsWhole profile.now script.now
+    ensures whole { OnOk result (RunsWhole profile.now script.now
         (⟦<AnswerPrinter<'w, W> as Report>⟧.answers printer.old)
         (⟦<AnswerPrinter<'w, W> as Report>⟧.answers printer.new)) }
+    ensures continued { OnOk result (GoesOn ⟦<AnswerPrinter<'w, W> as Report>⟧.continues
+        printer.old printer.new) }
 {
     match report_on_maps(alloc, profile, script, printer, book) {
         Ok(device) => match printer.flush() {
@@ -242,9 +277,11 @@ where
     R: Files + StoreHost + AllocGlobal,
     W: Write,
     requires { IfSome book.old (λ kept. kept ≡ nothing) }
-    ensures { OnOk result (RunsWhole profile.now script.now
+    ensures whole { OnOk result (RunsWhole profile.now script.now
         (⟦<AnswerPrinter<'w, W> as Report>⟧.answers printer.old)
         (⟦<AnswerPrinter<'w, W> as Report>⟧.answers printer.new)) }
+    ensures continued { OnOk result (GoesOn ⟦<AnswerPrinter<'w, W> as Report>⟧.continues
+        printer.old printer.new) }
 {
     let mut store = match rt.open_kept(name) {
         Ok(store) => store,

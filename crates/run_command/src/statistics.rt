@@ -1,14 +1,17 @@
 // What the commands and the requests of a run's lives come to, written.
-ghost use Rattle.std.specs.Prelude.{ℕ, List, OnOk, length, min};
+ghost use Rattle.std.specs.Prelude.{ℕ, List, OnOk, is_none, length, min};
 ghost use Rattle.std.specs.Io.KnownBytes.{Appends};
 ghost use Rattle.run_command.specs.Lives.{TellsLifeAt, TellsLifeNumbers, TellsNumbers};
+ghost use Rattle.run_command.specs.Whole.{WritesBehind};
 ghost use Rattle.trace_statistics.specs.Telling.{TellsBelow};
 
-use crate::requests::LifeWaits;
-use command_faults::{Failure, ProgramFault};
+use crate::requests::{LifeWaits, waits_of_lives};
+use command_faults::{Failure, ProgramFault, flush};
 use command_trace::TraceFault;
 use ddr4_timing::timing::CommandRules;
-use script_runner::LifeCommands;
+use nv_profile::Profile;
+use nv_script::{Answer, read_script};
+use script_runner::{KeptRun, LifeCommands};
 use statistics_report::{write_life, write_waits};
 use std::alloc::Global;
 use std::io::Write;
@@ -53,8 +56,8 @@ fn write_life_statistics<W: Write>(
     write_waits(alloc, "writes", &waits.writes, is_json, writer)
 }
 
-/// Writes what each life of a run comes to, numbered from 1, as lines or as objects.
-pub(crate) fn write_statistics<W: Write>(
+// Writes what each life of a run comes to, numbered from 1, as lines or as objects.
+fn write_statistics<W: Write>(
     alloc: Global,
     rules: &CommandRules,
     lives: &[LifeCommands],
@@ -76,5 +79,29 @@ pub(crate) fn write_statistics<W: Write>(
             Err(_) => return Err(Failure::from(ProgramFault::File("-"))),
         }
     }
+    Ok(())
+}
+
+/// Writes the statistics of a run, which are made of its answers. It writes nothing where these weren't kept.
+pub(crate) fn write_behind<'a, W: Write>(
+    alloc: Global,
+    profile: &Profile,
+    script: &[u8],
+    answers: Option<Vec<Answer>>,
+    run: &KeptRun,
+    is_json: bool,
+    writer: &mut W,
+) -> Result<(), Failure<'a>>
+    ensures { OnOk result (WritesBehind (is_none answers)
+        (W.contents writer.old) (W.contents writer.new)) }
+{
+    let Some(answers) = answers else {
+        return Ok(());
+    };
+    let lines = read_script(alloc, script, &profile.checked.geometry)?;
+    let waits = waits_of_lives(alloc, profile, &lines, &answers, run)?;
+    let rules = profile.checked.rules();
+    write_statistics(alloc, &rules, run.lives(), &waits, is_json, writer)?;
+    flush(writer)?;
     Ok(())
 }

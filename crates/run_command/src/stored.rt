@@ -2,6 +2,7 @@
 ghost use Rattle.std.specs.Prelude.{◌≡◌, IfOk, IfSome, OnOk, length};
 ghost use Rattle.save_device.specs.Memory.{state_of};
 ghost use Rattle.script_runner.specs.Ended.{nothing};
+ghost use Rattle.script_runner.specs.Story.{GoesOn};
 ghost use Rattle.script_runner.specs.Wiring.{IsMapOf, IsWiredFor};
 ghost use Rattle.store_file.specs.Stores.{IfHas, device_in};
 ghost use Rattle.run_command.specs.Stored.{RunsOnStore, RunsScriptOn, size_for};
@@ -72,10 +73,11 @@ pub fn report_on_bytes<'m, M: LineMap, R: Report>(
     requires xor_map { IsMapOf M.LineMap profile.now.checked.geometry xor_map.now }
     requires size { length bytes.items ≡ size_for profile.now }
     requires book { IfSome book.old (λ kept. kept ≡ nothing) }
-    ensures { IfOk result (λ device. RunsScriptOn ⟦<Ddr4Port<'m, M> as ChannelPort>⟧
+    ensures runs { IfOk result (λ device. RunsScriptOn ⟦<Ddr4Port<'m, M> as ChannelPort>⟧
         ⟦<Wiring<'m, M> as Wires<Ddr4Port<'m, M>>>⟧
         (IsWiredFor lines_map.now xor_map.now profile.now) profile.now
         bytes.items script.now (R.answers report.old) (R.answers report.new) book.new device) }
+    ensures continued { OnOk result (GoesOn R.continues report.old report.new) }
 {
     let lines = read_script(alloc, script, &profile.checked.geometry)?;
     let device = MemoryDevice::new(alloc, bytes)?;
@@ -155,6 +157,8 @@ pub fn run_on_store<'m, 'w, M: LineMap, S: Store, R: Files + AllocGlobal, W: Wri
     ensures whole { OnOk result (RunsWhole profile.now script.now
         (⟦<AnswerPrinter<'w, W> as Report>⟧.answers printer.old)
         (⟦<AnswerPrinter<'w, W> as Report>⟧.answers printer.new)) }
+    ensures continued { OnOk result (GoesOn ⟦<AnswerPrinter<'w, W> as Report>⟧.continues
+        printer.old printer.new) }
     ensures stored { OnOk result (IfHas (λ old. IfHas
         (RunsOnStore ⟦<Ddr4Port<'m, M> as ChannelPort>⟧
         ⟦<Wiring<'m, M> as Wires<Ddr4Port<'m, M>>>⟧

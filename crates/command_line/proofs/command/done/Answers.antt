@@ -2,7 +2,7 @@ use Rattle.std.proofs.Common.{◌≡◌, sym, ◌∙◌}
 use Rattle.std.proofs.lemmas.Result.{IfOk-weaker}
 use Rattle.std.specs.Process.{exit_status}
 use Rattle.command_faults.specs.Named.{HasProfile, OfScriptNamed}
-use Rattle.run_command.specs.Whole.{IsRunWhole}
+use Rattle.run_command.specs.Whole.{IsToldRun}
 use Rattle.command_line.specs.Check.{HasVerdictBy}
 use Rattle.command_line.specs.Crash.{IsCrashTold}
 use Rattle.command_line.specs.Done.{IsDone}
@@ -21,7 +21,7 @@ returns-in-run g c =
     let old = g.W.Write.contents c.args.writer.now in
     let new = g.W.Write.contents c.answer.new.writer in
     IfOk-weaker c.answer.result
-    (λ code. (exit_status code ≡ 0) × OfScriptNamed gives (profile_word matches) (script_word matches) IsRunWhole)
+    (λ code. (exit_status code ≡ 0) × OfScriptNamed gives (profile_word matches) (script_word matches) (IsToldRun old new))
     (λ code. IsDone gives verb matches code old new)
     (λ code told. record {
       run = λ e. told;
