@@ -170,6 +170,7 @@ impl Row<'_> {
     }
 
     // The bank that it names. Lines and tables call its group differently.
+    #[inline(always)]
     fn bank_at(&self, group: &'static str) -> Result<BankAddress, TraceFault>
         ensures { IfOk result (WritesBank (words_of_row (fields_of self.now.fields.now))) }
     {
@@ -180,6 +181,7 @@ impl Row<'_> {
     }
 
     // The command of a kind, whose column stands in this place.
+    #[inline(always)]
     fn command_at(
         &self,
         kind: CommandKind,
@@ -256,6 +258,7 @@ impl Row<'_> {
     }
 
     // The command of a line as this program prints it.
+    #[inline(always)]
     pub(crate) fn command_of_line(&self) -> Result<Located, TraceFault>
         ensures fits { IfOk result (λ found. FitsChannels self.now.channels found.entry) }
         ensures says { IfOk result (IsLineOf (words_of_row (fields_of self.now.fields.now))) }
