@@ -1,6 +1,7 @@
 -- Which lists of commands a `TimingState` stands for.
 use Rattle.std.specs.Prelude.{◌≡◌, ◌↔◌, ℕ, ◌+◌, ◌*◌, ◌<◌, Bool, ◌||◌, max, List, length, slice_index_or, IsTrue}
 use Rattle.ddr4_timing.specs.declared.place.BankAddress.{BankAddress}
+use Rattle.ddr4_timing.specs.declared.command.BankCommand.{BankCommand}
 use Rattle.ddr4_timing.specs.declared.command.Command.{Command}
 use Rattle.ddr4_timing.specs.declared.command.Command.TheVariants.{Act, Rd, Wr, Pre, PreAll, Ref, Sre}
 use Rattle.ddr4_timing.specs.declared.command.Stamped.{Stamped}
@@ -11,7 +12,7 @@ use Rattle.ddr4_timing.specs.declared.rank.RankState.{RankState}
 use Rattle.ddr4_timing.specs.declared.rank.Window.{Window}
 use Rattle.ddr4_timing.specs.declared.rank.Refresh.{Refresh}
 use Rattle.ddr4_timing.specs.declared.timing_state.TimingState.{TimingState}
-use Rattle.ddr4_timing.specs.Command.{is_sre, rank_of}
+use Rattle.ddr4_timing.specs.Command.{command_to, is_sre, rank_of}
 use Rattle.ddr4_timing.specs.Demands.{Demand, beyond_rank, demand_of, in_bank, in_groups}
 use Rattle.ddr4_timing.specs.Floors.{floor, least_clock, window}
 use Rattle.ddr4_timing.specs.Lawful.{row_after, open_row, last_ref, ref_count, is_asleep, with_command, AllClosed, FitsRows, IsLawfulIn, IsNotEarly, KeepsRows, MayComeNext}
@@ -107,23 +108,27 @@ abbrev pub TellsLawful : Timing → Geometry → TimingState → Command → ℕ
 TellsLawful t g m x clock answer =
     (list : List Stamped) → StandsFor t g m list → (IsTrue answer ↔ IsLawfulIn t g (with_command list clock x))
 
--- the least clock that a rank's own commands leave to an ACT,
-abbrev pub LeavesToAct : RankState → BankAddress → ℕ → Type 0
-LeavesToAct r at clock =
-    (bank : BankCells) (none : ℕ) → clock ≡
-    max (slice_index_or r.banks (slot_of at) bank).act (max (slice_index_or r.group_act at.group none) r.act)
+-- the cell of a bank for its next command of a kind
+abbrev pub cell_of : BankCommand → BankCells → ℕ
+cell_of BankCommand.Act cells = cells.act
+cell_of BankCommand.Pre cells = cells.pre
+cell_of BankCommand.Rd cells = cells.column
+cell_of BankCommand.Wr cells = cells.column
 
--- to a RD,
-abbrev pub LeavesToRd : RankState → BankAddress → ℕ → Type 0
-LeavesToRd r at clock =
-    (bank : BankCells) (none : ℕ) → clock ≡
-    max (slice_index_or r.banks (slot_of at) bank).column (slice_index_or r.group_rd at.group none)
+-- The clock is what the commands of a bank leave to its next one of a kind, by what is kept of its rank,
+abbrev pub LeavesTo : BankCommand → RankState → BankAddress → ℕ → Type 0
+LeavesTo kind r at clock = (none : BankCells) → clock ≡ cell_of kind (slice_index_or r.banks (slot_of at) none)
 
--- and to a WR, those of RD aside
-abbrev pub LeavesToWr : RankState → BankAddress → ℕ → Type 0
-LeavesToWr r at clock =
-    (bank : BankCells) (none : ℕ) → clock ≡
-    max (slice_index_or r.banks (slot_of at) bank).column (slice_index_or r.group_wr at.group none)
+-- by what is kept of its channel.
+abbrev pub IsBankClock : TimingState → BankAddress → BankCommand → ℕ → Type 0
+IsBankClock m at kind clock = (none : RankState) → LeavesTo kind (slice_index_or m.ranks at.rank none) at clock
+
+-- The floor is what all other commands leave to the next one of a kind to any bank of a group: the greater of it and the bank's clock
+-- is the least clock of that command, whatever row or column it names.
+abbrev pub IsGroupFloor : Timing → Geometry → TimingState → ℕ → ℕ → BankCommand → ℕ → Type 0
+IsGroupFloor t g m rank group kind floor =
+    (list : List Stamped) (at : BankAddress) (number clock : ℕ) → Keeps t g m list → HasBank g at → at.rank ≡ rank → at.group ≡ group
+    → IsBankClock m at kind clock → max floor clock ≡ least_clock t list (command_to kind at number)
 
 -- A least clock rises to what a gap leaves behind a clock, as far as that lies past the clock.
 abbrev pub ClockRises : ℕ → ℕ → ℕ → ℕ → Type 0

@@ -5,7 +5,7 @@ ghost use Rattle.ddr4_timing.specs.Places.{HasSlot};
 ghost use Rattle.ddr4_timing.specs.declared.command.Command.TheVariants.{Act, Rd, Wr, Pre, PreAll, Ref, Sre};
 
 use crate::cells::{BankCells, raise, raise_all};
-use crate::command::Command;
+use crate::command::{BankCommand, Command};
 use crate::place::BankAddress;
 use crate::rows::Rows;
 use crate::timing::Timing;
@@ -46,7 +46,7 @@ pub struct RankState {
 impl RankState {
     ghost use Rattle.ddr4_timing.specs.Limits.{AreInLimits, HasFewBanks};
     ghost use Rattle.ddr4_timing.specs.declared.timing.Geometry.{Geometry};
-    ghost use Rattle.ddr4_timing.specs.TimingState.{LeavesToAct, LeavesToRd, LeavesToWr, RankStands, RankTakes};
+    ghost use Rattle.ddr4_timing.specs.TimingState.{LeavesTo, RankStands, RankTakes};
 
     /// A rank before any command.
     pub(crate) fn new(t: &Timing) -> RankState
@@ -195,30 +195,17 @@ impl RankState {
         }
     }
 
-    /// The least clock that the rank's own commands leave to an ACT.
-    pub(crate) fn act_clock(&self, at: BankAddress) -> u64
+    /// The least clock that the commands of a bank leave to its next one of a kind.
+    #[inline(always)]
+    pub(crate) fn bank_clock(&self, at: BankAddress, kind: BankCommand) -> u64
         requires { HasSlot at }
-        ensures { LeavesToAct self.now at result }
+        ensures { LeavesTo kind self.now at result }
     {
-        let group = self.group_act[at.group as usize];
-        self.banks[at.slot()].act.max(group.max(self.act))
-    }
-
-    /// The least clock that the rank's own commands leave to a RD.
-    pub(crate) fn rd_clock(&self, at: BankAddress) -> u64
-        requires { HasSlot at }
-        ensures { LeavesToRd self.now at result }
-    {
-        let group = self.group_rd[at.group as usize];
-        self.banks[at.slot()].column.max(group)
-    }
-
-    /// The least clock that the rank's own commands leave to a WR, those of RD aside.
-    pub(crate) fn wr_clock(&self, at: BankAddress) -> u64
-        requires { HasSlot at }
-        ensures { LeavesToWr self.now at result }
-    {
-        let group = self.group_wr[at.group as usize];
-        self.banks[at.slot()].column.max(group)
+        let cells = self.banks[at.slot()];
+        match kind {
+            BankCommand::Act => cells.act,
+            BankCommand::Pre => cells.pre,
+            BankCommand::Rd | BankCommand::Wr => cells.column,
+        }
     }
 }

@@ -1,12 +1,12 @@
 // What a list of commands leaves to the next one, in a constant size.
-ghost use Rattle.std.specs.Prelude.{◌≡◌, ◌<◌, ◌^◌, List, [], IsTrue};
+ghost use Rattle.std.specs.Prelude.{◌≡◌, ◌<◌, ◌^◌, ℕ, List, [], IsTrue};
 ghost use Rattle.ddr4_timing.specs.Lawful.{IsInGeometry, open_row};
-ghost use Rattle.ddr4_timing.specs.Command.{rank_of};
+ghost use Rattle.ddr4_timing.specs.Command.{command_to, rank_of};
 ghost use Rattle.ddr4_timing.specs.Places.{HasBank};
 ghost use Rattle.ddr4_timing.specs.declared.command.Stamped.{Stamped};
 
 use crate::cells::{raise, raise_all};
-use crate::command::Command;
+use crate::command::{BankCommand, Command};
 use crate::fault::is_in_geometry;
 use crate::place::BankAddress;
 use crate::rank::RankState;
@@ -25,7 +25,7 @@ pub struct TimingState {
 
 impl TimingState {
     ghost use Rattle.ddr4_timing.specs.Limits.{AreInLimits, HasFewBanks};
-    ghost use Rattle.ddr4_timing.specs.TimingState.{ChannelTakes, IsKeptAfter, IsStateAfter, IsRankOf, Keeps, StandsFor, TellsClosed, TellsFit, TellsLawful, TellsLeastClock, TellsNext, TellsRows};
+    ghost use Rattle.ddr4_timing.specs.TimingState.{ChannelTakes, IsBankClock, IsGroupFloor, IsKeptAfter, IsStateAfter, IsRankOf, Keeps, StandsFor, TellsClosed, TellsFit, TellsLawful, TellsLeastClock, TellsNext, TellsRows};
 
     /// Before any command.
     pub fn new(t: &Timing, g: &Geometry) -> TimingState
@@ -132,6 +132,58 @@ impl TimingState {
         }
     }
 
+    /// The clock before which no command of a kind may go to any bank of a group, whatever is open: what the rules leave to it
+    /// but for those on the commands of its own bank.
+    #[inline(always)]
+    pub fn group_floor(
+        &self,
+        t: &Timing,
+        g: &Geometry,
+        rank: u64,
+        group: u64,
+        kind: BankCommand,
+    ) -> u64
+        requires few { HasFewBanks g.now }
+        requires rank { rank < g.now.ranks }
+        requires group { group < g.now.groups }
+        ensures { IsGroupFloor t.now g.now self.now rank group kind result }
+    {
+        // the `requires` and the clause are of these numbers, and no step of the code is
+        let _numbers = (*t, *g);
+        let (number, index) = (rank as usize, group as usize);
+        let (rank, column) = (&self.ranks[number], self.columns[number]);
+        let floor = match kind {
+            BankCommand::Act => rank.group_act[index].max(rank.act.max(rank.window.fourth)),
+            BankCommand::Pre => 0,
+            BankCommand::Rd => column.max(rank.group_rd[index]),
+            BankCommand::Wr => column.max(self.write.max(rank.group_wr[index])),
+        };
+        self.next.max(floor)
+    }
+
+    /// The least clock that the commands of a bank leave to its next one of a kind.
+    #[inline(always)]
+    pub fn bank_clock(&self, g: &Geometry, at: BankAddress, kind: BankCommand) -> u64
+        requires few { HasFewBanks g.now }
+        requires bank { HasBank g.now at }
+        ensures { IsBankClock self.now at kind result }
+    {
+        // the `requires` are of this geometry, and no step of the code is
+        let _geometry = *g;
+        self.ranks[at.rank as usize].bank_clock(at, kind)
+    }
+
+    // The least clock of a command to a bank.
+    #[inline(always)]
+    fn clock_to(&self, t: &Timing, g: &Geometry, at: BankAddress, kind: BankCommand) -> u64
+        requires few { HasFewBanks g.now }
+        requires bank { HasBank g.now at }
+        ensures { (number : ℕ) → TellsLeastClock t.now g.now self.now (command_to kind at number) result }
+    {
+        self.group_floor(t, g, at.rank, at.group, kind)
+            .max(self.bank_clock(g, at, kind))
+    }
+
     /// The least clock by every rule but the one on rows and the refresh deadline.
     #[inline(always)]
     #[tactic(auto, unfolding(crate::specs::Floors::least_clock))]
@@ -140,19 +192,16 @@ impl TimingState {
         requires place { IsInGeometry g.now cmd.now }
         ensures { TellsLeastClock t.now g.now self.now cmd.now result }
     {
-        let number = cmd.rank();
-        let rank = self.rank(t, g, number);
-        let column = self.columns[number as usize];
-        let least = match *cmd {
-            Command::Act { at, .. } => rank.act_clock(at).max(rank.window.fourth),
-            Command::Rd { at, .. } => column.max(rank.rd_clock(at)),
-            Command::Wr { at, .. } => column.max(self.write.max(rank.wr_clock(at))),
-            Command::Pre { at } => rank.banks[at.slot()].pre,
-            Command::PreAll { .. } => rank.pre_all,
-            Command::Ref { .. } => rank.idle.max(rank.refresh.next),
-            Command::Sre { .. } => rank.idle,
-        };
-        self.next.max(least)
+        let rank = self.rank(t, g, cmd.rank());
+        match *cmd {
+            Command::Act { at, .. } => self.clock_to(t, g, at, BankCommand::Act),
+            Command::Rd { at, .. } => self.clock_to(t, g, at, BankCommand::Rd),
+            Command::Wr { at, .. } => self.clock_to(t, g, at, BankCommand::Wr),
+            Command::Pre { at } => self.clock_to(t, g, at, BankCommand::Pre),
+            Command::PreAll { .. } => self.next.max(rank.pre_all),
+            Command::Ref { .. } => self.next.max(rank.idle.max(rank.refresh.next)),
+            Command::Sre { .. } => self.next.max(rank.idle),
+        }
     }
 
     /// May the command go at this clock?

@@ -19,16 +19,19 @@ bit_added word k i within = elim (cases_eq i k) [
 abbrev without : ℕ → ℕ → ℕ
 without word k = bit_and word (bit_not w64 (1 * 2 ^ k % 2 ^ 64))
 
+pub bit_gone_below : (word k i : ℕ) → k < 64 → i < 64 → ((bit_at (without word k) i ≡ 1) ↔ ((bit_at word i ≡ 1) × (i ≢ k)))
+bit_gone_below word k i within low = elim (cases_eq i k) [
+  | inl same ↦
+      let gone = ap (λ (j : ℕ). bit_at (without word k) j) same ∙ bit_at_clear_same w64 word k within in
+      (λ h. absurd (omega (arith, gone, h)), λ h. absurd (h.1 same))
+  | inr differs ↦
+      let kept = bit_at_clear_other w64 word k within i low differs in
+      (λ h. (sym kept ∙ h, differs), λ h. kept ∙ h.0)
+]
+
 bit_gone : (word k i : ℕ) → k < 64 → word < 2 ^ 64 → ((bit_at (without word k) i ≡ 1) ↔ ((bit_at word i ≡ 1) × (i ≢ k)))
 bit_gone word k i within few = elim (cases_lt i 64) [
-  | inl low ↦ elim (cases_eq i k) [
-    | inl same ↦
-        let gone = ap (λ (j : ℕ). bit_at (without word k) j) same ∙ bit_at_clear_same w64 word k within in
-        (λ h. absurd (omega (arith, gone, h)), λ h. absurd (h.1 same))
-    | inr differs ↦
-        let kept = bit_at_clear_other w64 word k within i low differs in
-        (λ h. (sym kept ∙ h, differs), λ h. kept ∙ h.0)
-  ]
+  | inl low ↦ bit_gone_below word k i within low
   | inr high ↦
       let less = and_le_l word (bit_not w64 (1 * 2 ^ k % 2 ^ 64)) in
       let none = bit_at_above word 64 i few high in
@@ -52,3 +55,7 @@ lowest_taken word some few =
     let k = trailing_zeros w64 word in
     let (within, set, first) = bit_at-trailing_zeros w64 word some few in
     (within, set, λ i. bit_gone word k i within few, word_less word k within set)
+
+-- a word that isn't zero has a bit
+pub some_bit : (word : ℕ) → 0 < word → word < 2 ^ 64 → (i : ℕ) × (i < 64) × (bit_at word i ≡ 1)
+some_bit word some few = let (within, set, first) = bit_at-trailing_zeros w64 word some few in (trailing_zeros w64 word, within, set)

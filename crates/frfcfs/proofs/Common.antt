@@ -23,10 +23,10 @@ pub use Rattle.frfcfs.specs.declared.pending.Kind.{Kind}
 pub use Rattle.frfcfs.specs.declared.pending.Kind.TheVariants.{Read, Write}
 pub use Rattle.frfcfs.specs.declared.pending.Pending.{Pending}
 pub use Rattle.frfcfs.specs.Candidates.{HasNoCandidate, IsCandidate, IsChoice, IsInLead, IsLeast, IsNotAfter, IsUnhit, MayHave, OfColumn, OfRank, OfRow, OffersRank, Turn, WantsColumn, WantsRow, class_of, tie_break_of}
-pub use Rattle.frfcfs.specs.Keys.{AreHeldBy, AreKeys, AreKeysIn, IsKeyOf, bank_number, firsts_of, place_of}
+pub use Rattle.frfcfs.specs.Keys.{AreKeys, AreKeysIn, AreToldBy, IsKeyOf, bank_number, firsts_of, place_of}
 pub use Rattle.frfcfs.specs.Margin.{AreAsleep, HasTime, IsIdle, KeepsMargin, MayClose, MayRefresh, close_clock, commands_before, lead_clock, refresh_clock, row_time}
 unfoldable pub use Rattle.frfcfs.specs.Margin.{above, last_clock}
 pub use Rattle.frfcfs.specs.Next.{HasWork, IsNext, IsNextIn, ServesInTurn}
 pub use Rattle.frfcfs.specs.Queue.{AreFirsts, IsFirstAt, KeepsRequests, IsOldestOf, IsWaiting, MarksOldest, Waiting, held_by, is_held, marked_at, numbered_from}
 pub use Rattle.frfcfs.specs.Requests.{AreInOrder, IsEligible, IsFirst, act_of, column_of, pre_of}
-pub use Rattle.frfcfs.specs.Search.{AreBest, AreFound, AreHits, AreMarks, HasHit, IsBest, IsBetter, IsEnd, IsRankNext, IsRankNextAt, IsSoonerOf, Takes, limit_of}
+pub use Rattle.frfcfs.specs.Search.{AreBest, AreBestInTurn, AreFound, AreHits, AreMarks, HasHit, IsBest, IsBetter, IsEnd, IsRankNext, IsRankNextAt, IsSoonerOf, Takes, limit_of}

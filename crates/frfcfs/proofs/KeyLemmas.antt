@@ -1,5 +1,5 @@
 -- Keys of requests, in a queue that grows, shrinks and is held, and what they say of a request.
-use Rattle.std.proofs.Common.{◌≡◌, ◌≢◌, ℕ, ◌+◌, ◌<◌, ◌≤◌, ◌↔◌, List, [], ◌∷◌, ◌++◌, Bool, IsTrue, true, false, Option, None, Some, inl, inr, refl, sym, subst, ap, ◌∙◌, arith, All, map, length, length-append, remove, get_or, set, length-set, get_or-set_same, get_or-set_other, slice_get}
+use Rattle.std.proofs.Common.{◌≡◌, ◌≢◌, ℕ, ◌+◌, ◌<◌, ◌≤◌, ◌↔◌, List, [], ◌∷◌, ◌++◌, Bool, IsTrue, true, false, Option, None, Some, inl, inr, refl, sym, subst, ap, ◌∙◌, arith, All, map, length, length-append, remove, get_or, set, length-set, get_or-set_same, get_or-set_other, slice_get, IfSome}
 use Rattle.std.proofs.Math.Seq.{map-set_same}
 use Rattle.std.proofs.lemmas.Bool.{cases_eq, cases_lt}
 use Rattle.std.proofs.lemmas.List.{get_or-map, get_or_append_left, get_or_default, get_or_push, length-map, map-append}
@@ -7,8 +7,9 @@ use Rattle.std.proofs.lemmas.List.Edits.{length-remove}
 use Rattle.std.specs.List.{drop-map, take-map}
 use Rattle.std.proofs.lemmas.Option.{get_or_from_slice_get, slice_get-get_or, slice_get_within}
 use Rattle.ddr4_timing.proofs.Addresses.{same_address}
+use Rattle.frfcfs.specs.Notes.{IsMarked}
 use Rattle.frfcfs.specs.Scan.{flag_of}
-use Rattle.frfcfs.proofs.Common.{AreHeldBy, AreKeys, AreKeysIn, BankAddress, Geometry, IsKeyOf, IsOldestOf, IsSmall, Key, Kind, LiesIn, Pending, bank_at, bank_index, bank_number, firsts_of, held_by, numbered_from, place_of}
+use Rattle.frfcfs.proofs.Common.{AreKeys, AreKeysIn, AreToldBy, BankAddress, Geometry, IsKeyOf, IsOldestOf, IsSmall, Key, Kind, LiesIn, Pending, bank_at, bank_index, bank_number, firsts_of, held_by, numbered_from, place_of}
 use Rattle.frfcfs.proofs.HitLemmas.{IsLook}
 use Rattle.frfcfs.proofs.KeepLemmas.{length-numbered, numbered_at}
 use Rattle.frfcfs.proofs.Lists.{something_at}
@@ -128,38 +129,29 @@ keys_mark pending keys i key there read are = record {
   each = λ j d e within. elim (cases_eq j i) [
     | inl same ↦
         let was : IsKeyOf (get_or pending i d) key = subst (λ (k : Key). IsKeyOf (get_or pending i d) k) (sym read) (are.each i d key (omega (arith, there, are.size))) in
-        rw (same, get_or-set_same keys i (record key { first = true }) e there) (record { row = was.row; line = was.line; bank = was.bank; kind = was.kind; held = was.held })
+        rw (same, get_or-set_same keys i (record key { first = true }) e there) (record { seq = was.seq; row = was.row; line = was.line; bank = was.bank; kind = was.kind; held = was.held })
     | inr other ↦ rw (get_or-set_other keys i j (record key { first = true }) e other) (are.each j d e within)
   ];
 }
 
--- each numbered anew
-pub keys_numbered : (pending : List Pending) (keys : List Key) → AreKeys pending keys → AreKeys (numbered_from 0 pending) keys
-keys_numbered pending keys are =
-    let size = length-numbered 0 pending in record {
-      size = are.size ∙ sym size;
-      each = λ i d e within.
-          let l : i < length pending = omega (arith, within, size) in
-          rw (numbered_at 0 pending i d l) (let was = are.each i d e l in record { row = was.row; line = was.line; bank = was.bank; kind = was.kind; held = was.held });
-    }
+-- each told anew of its request
 
--- each held or not
-
--- the keys before an end have the marks of their requests
-pub record AreHeldUpto (pending : List Pending) (old new : List Key) (end : ℕ) : Type 0 where
+-- the keys before an end have what their requests have
+pub record AreToldUpto (pending : List Pending) (old new : List Key) (end : ℕ) : Type 0 where
   pub firsts : firsts_of new ≡ firsts_of old
-  pub below : (i : ℕ) (p : Pending) (k : Key) → i < end → i < length old → get_or new i k ≡ record (get_or old i k) { held = (get_or pending i p).held }
+  pub below : (i : ℕ) (p : Pending) (k : Key) → i < end → i < length old → get_or new i k ≡ record (get_or old i k) { seq = (get_or pending i p).seq; held = (get_or pending i p).held }
   pub above : (i : ℕ) (k : Key) → end ≤ i → get_or new i k ≡ get_or old i k
 
-pub keys_held : (hold : Option ℕ) (pending : List Pending) (old new : List Key) → AreHeldBy (map (held_by hold) pending) old new → AreKeys pending old → AreKeys (map (held_by hold) pending) new
-keys_held hold pending old new held are =
+pub keys_held : (hold : Option ℕ) (pending : List Pending) (old new : List Key) → AreToldBy (map (held_by hold) pending) old new → AreKeys pending old → AreKeys (map (held_by hold) pending) new
+keys_held hold pending old new told are =
     let n = length-map pending (held_by hold) in record {
-      size = omega (arith, held.size, are.size, n);
+      size = omega (arith, told.size, are.size, n);
       each = λ i d e within.
           let less : i < length pending = omega (arith, within, n) in
           let request = get_or-map (held_by hold) pending i d d less in
           let was = are.each i d e less in
-          rw (held.each i d e (omega (arith, less, are.size))) (record {
+          rw (told.each i d e (omega (arith, less, are.size))) (record {
+            seq = refl;
             row = was.row ∙ ap (λ (q : Pending). q.place.row) (sym request);
             line = was.line ∙ ap (λ (q : Pending). q.line) (sym request);
             bank = was.bank ∙ ap (λ (q : Pending). bank_number q.place) (sym request);
@@ -168,18 +160,53 @@ keys_held hold pending old new held are =
           });
     }
 
--- a loop that holds each
-pub held_more : (pending : List Pending) (old keys : List Key) (i : ℕ) (key : Key) (held : Bool) (p : Pending) → i < length old → length keys ≡ length old → length old ≡ length pending → key ≡ get_or keys i key → held ≡ (get_or pending i p).held
-    → AreHeldUpto pending old keys i → AreHeldUpto pending old (set keys i (record key { held = held })) (i + 1)
-held_more pending old keys i key held p within size both read is before = record {
-  firsts = map-set_same (λ (x : Key). x.first) keys i (record key { held = held }) key (ap (λ (x : Key). x.first) read) ∙ before.firsts;
+pub keys_numbered : (pending : List Pending) (old new : List Key) → AreToldBy (numbered_from 0 pending) old new → AreKeys pending old → AreKeys (numbered_from 0 pending) new
+keys_numbered pending old new told are =
+    let n = length-numbered 0 pending in record {
+      size = omega (arith, told.size, are.size, n);
+      each = λ i d e within.
+          let less : i < length pending = omega (arith, within, n) in
+          let request = numbered_at 0 pending i d less in
+          let was = are.each i d e less in
+          rw (told.each i d e (omega (arith, less, are.size))) (record {
+            seq = refl;
+            row = was.row ∙ ap (λ (q : Pending). q.place.row) (sym request);
+            line = was.line ∙ ap (λ (q : Pending). q.line) (sym request);
+            bank = was.bank ∙ ap (λ (q : Pending). bank_number q.place) (sym request);
+            kind = was.kind ∙ ap (λ (q : Pending). q.kind) (sym request);
+            held = refl;
+          });
+    }
+
+-- a loop that tells each
+pub told_more : (pending : List Pending) (old keys : List Key) (i seq : ℕ) (key : Key) (held : Bool) (p : Pending) → i < length old → length keys ≡ length old → length old ≡ length pending → key ≡ get_or keys i key
+    → seq ≡ (get_or pending i p).seq → held ≡ (get_or pending i p).held → AreToldUpto pending old keys i → AreToldUpto pending old (set keys i (record key { seq = seq; held = held })) (i + 1)
+told_more pending old keys i seq key held p within size both read number is before = record {
+  firsts = map-set_same (λ (x : Key). x.first) keys i (record key { seq = seq; held = held }) key (ap (λ (x : Key). x.first) read) ∙ before.firsts;
   below = λ j q e less there. elim (cases_eq j i) [
     | inl same ↦
-        let mark : held ≡ (get_or pending i q).held = is ∙ ap (λ (x : Pending). x.held) (get_or_default pending i p q (omega (arith, within, both))) in
+        let own = get_or_default pending i p q (omega (arith, within, both)) in
+        let mark : held ≡ (get_or pending i q).held = is ∙ ap (λ (x : Pending). x.held) own in
+        let new : seq ≡ (get_or pending i q).seq = number ∙ ap (λ (x : Pending). x.seq) own in
         let was : key ≡ get_or old i e = read ∙ (before.above i key (omega arith) ∙ get_or_default old i key e within) in
-        rw (same, get_or-set_same keys i (record key { held = held }) e (omega (arith, within, size)))
-        (ap (λ (k : Key). record k { held = held }) was ∙ ap (λ (b : Bool). record (get_or old i e) { held = b }) mark)
-    | inr other ↦ rw (get_or-set_other keys i j (record key { held = held }) e other) (before.below j q e (grind (arith, less, other)) there)
+        rw (same, get_or-set_same keys i (record key { seq = seq; held = held }) e (omega (arith, within, size)))
+        (ap (λ (k : Key). record k { seq = seq; held = held }) was ∙ (ap (λ (b : Bool). record (get_or old i e) { seq = seq; held = b }) mark ∙ ap (λ (n : ℕ). record (get_or old i e) { seq = n; held = (get_or pending i q).held }) new))
+    | inr other ↦ rw (get_or-set_other keys i j (record key { seq = seq; held = held }) e other) (before.below j q e (grind (arith, less, other)) there)
   ];
-  above = λ j e from. get_or-set_other keys i j (record key { held = held }) e (λ same. omega (arith, same, from)) ∙ before.above j e (omega (arith, from));
+  above = λ j e from. get_or-set_other keys i j (record key { seq = seq; held = held }) e (λ same. omega (arith, same, from)) ∙ before.above j e (omega (arith, from));
 }
+
+-- the banks of keys stand in a table of 64
+pub key_within : (pending : List Pending) (keys : List Key) (i : ℕ) (k : Key) → AreKeys pending keys → slice_get keys i ≡ Some k → k.bank < 64
+key_within pending keys i k are at =
+    let (p, here) = something_at pending i (omega (arith, slice_get_within keys i k at, are.size)) in
+    let own = (key_there pending keys i p k are here).bank in
+    let same = ap (λ (x : Key). x.bank) (get_or_from_slice_get keys i k k at) in
+    omega (arith, own, same)
+
+pub keys_within : (pending : List Pending) (keys : List Key) → AreKeys pending keys → All (λ key. key.bank < 64) keys
+keys_within pending keys are i d within = key_within pending keys i (get_or keys i d) are (slice_get-get_or keys i d within)
+
+pub marked_within : (pending : List Pending) (old new : List Key) (marked : Option Key) → AreKeys pending old → IsMarked old marked new → IfSome marked (λ key. key.bank < 64)
+marked_within pending old new None are is = tt
+marked_within pending old new (Some key) are (i, k, at, own, set) = let small = key_within pending old i k are at in omega (arith, small, ap (λ (x : Key). x.bank) own)

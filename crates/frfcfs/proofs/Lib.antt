@@ -14,6 +14,12 @@ pub mod QueueLemmas
 pub mod KeyLemmas
 pub mod CountLemmas
 pub mod KeepLemmas
+pub mod NoteLemmas
+pub mod KeyRequests
+pub mod SoonLemmas
+pub mod SoonBanks
+pub mod SoonEnds
+pub mod Halves
 pub mod refreshes
 pub mod WorkLemmas
 pub mod KeptRequests

@@ -16,6 +16,7 @@ place_of k = record { channel = 0; rank = k.bank / 16; group = k.bank / 4 % 4; b
 
 -- The key is the request's.
 pub record IsKeyOf (p : Pending) (k : Key) : Type 0 where
+  pub seq : k.seq ≡ p.seq
   pub row : k.row ≡ p.place.row
   pub line : k.line ≡ p.line
   pub bank : k.bank ≡ bank_number p.place
@@ -36,8 +37,8 @@ pub record AreKeysIn (g : Geometry) (pending : List Pending) (keys : List Key) :
   pub keyed : AreKeys pending keys
   pub marks : AreMarks g pending (firsts_of keys)
 
--- Each key has of its request whether it is held, and else is as it was.
-pub record AreHeldBy (pending : List Pending) (old new : List Key) : Type 0 where
+-- Each key has of its request its seq and whether it is held, and else is as it was.
+pub record AreToldBy (pending : List Pending) (old new : List Key) : Type 0 where
   pub size : length new ≡ length old
   pub firsts : firsts_of new ≡ firsts_of old
-  pub each : (i : ℕ) (p : Pending) (k : Key) → i < length old → slice_index_or new i k ≡ record (slice_index_or old i k) { held = (slice_index_or pending i p).held }
+  pub each : (i : ℕ) (p : Pending) (k : Key) → i < length old → slice_index_or new i k ≡ record (slice_index_or old i k) { seq = (slice_index_or pending i p).seq; held = (slice_index_or pending i p).held }

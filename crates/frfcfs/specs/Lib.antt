@@ -1,5 +1,6 @@
 pub mod Requests
 pub mod Keys
+pub mod Notes
 pub mod LineCounts
 pub mod Queue
 pub mod Candidates
@@ -7,4 +8,5 @@ pub mod Next
 pub mod Search
 pub mod BankSets
 pub mod Scan
+pub mod NotedLook
 pub mod Margin

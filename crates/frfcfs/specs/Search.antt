@@ -87,6 +87,16 @@ IsFound g pending now limit best =
 abbrev pub AreFound : Geometry → List Pending → ℕ → ℕ → Bests → Type 0
 AreFound g pending now limit bests = IsFound g pending now limit bests.column × IsFound g pending now limit bests.row
 
+-- The best of each class as far as the choice asks for it: an ACT or PRE only where it goes sooner than each RD and WR.
+pub record AreBestInTurn (c : Checked) (list : List Stamped) (pending : List Pending) (now last limit end : ℕ) (bests : Bests) : Type 0 where
+  pub column : IsBest (Takes (WantsColumn list) c list pending last) now limit end bests.column
+  pub row : bests.row.clock < bests.column.clock → IsBest (Takes (WantsRow list pending) c list pending last) now limit end bests.row
+  pub later : (index clock : ℕ) → index < end → now ≤ clock → Takes (WantsRow list pending) c list pending last index clock → (clock < limit) × (bests.row.clock ≤ clock)
+
+-- Their indices are those of eligible requests, as far as the choice asks for them.
+abbrev pub AreFoundInTurn : Geometry → List Pending → ℕ → ℕ → Bests → Type 0
+AreFoundInTurn g pending now limit bests = IsFound g pending now limit bests.column × (bests.row.clock < bests.column.clock → IsFound g pending now limit bests.row)
+
 -- A command goes in a span, and serves no request.
 abbrev pub ServesNobodyIn : ℕ → ℕ → Next → Type 0
 ServesNobodyIn now last next = (now ≤ next.clock) × (next.clock ≤ last) × (next.serves ≡ None)

@@ -1,5 +1,5 @@
 // Sets of banks.
-ghost use Rattle.std.specs.Prelude.{◌≡◌, ◌≢◌, ◌⊎◌, ◌<◌, ◌↔◌, ℕ, IsTrue};
+ghost use Rattle.std.specs.Prelude.{◌≡◌, ◌≢◌, ◌⊎◌, ◌<◌, ◌↔◌, ℕ, IsTrue, false};
 ghost use Rattle.frfcfs.specs.BankSets.{Has, IsOneTaken};
 
 /// Some of the 64 banks that a channel has at most, a bit for each.
@@ -30,6 +30,24 @@ impl BankSet {
         ensures { (other : ℕ) → Has self.new other ↔ ((other ≡ bank) ⊎ Has self.old other) }
     {
         self.bits |= 1 << bank;
+    }
+
+    /// One bank less.
+    pub(crate) fn remove(&mut self, bank: usize)
+        requires { bank < 64 }
+        ensures { (other : ℕ) → other < 64
+            → (Has self.new other ↔ (Has self.old other × (other ≢ bank))) }
+    {
+        let gone = 1 << bank;
+        self.bits &= !gone;
+    }
+
+    /// Whether there is none.
+    pub(crate) fn is_empty(&self) -> bool
+        ensures none { IsTrue result → (bank : ℕ) → ¬ Has self.now bank }
+        ensures some { result ≡ false → (bank : ℕ) × (bank < 64) × Has self.now bank }
+    {
+        self.bits == 0
     }
 
     /// Takes one of them out, if there is one.

@@ -2,15 +2,17 @@
 ghost use Rattle.std.specs.Prelude.{◌≡◌, ◌↔◌, IsTrue, false};
 ghost use Rattle.ddr4_timing.specs.Places.{bank_at};
 ghost use Rattle.frfcfs.specs.Keys.{bank_number, place_of};
+ghost use Rattle.frfcfs.specs.Notes.{IsFree};
 ghost use Rattle.frfcfs.specs.Requests.{act_of, column_of};
 
 use crate::pending::Kind;
 use ddr4_timing::command::Command;
 use ddr4_timing::place::{BankAddress, Place};
 
-/// What the choice asks of a request before its turn comes, in a fourth of the room that the request takes.
+/// What the choice asks of a request before its turn comes, in a third of the room that the request takes.
 #[derive(Clone, Copy)]
 pub(crate) struct Key {
+    pub(crate) seq: u64,
     pub(crate) row: u64,
     pub(crate) line: u64,
     /// Where its bank stands in a table of the 64 banks that a channel has at most.
@@ -35,6 +37,21 @@ impl Key {
         ensures { IsTrue result ↔ (IsTrue self.now.first × (self.now.held ≡ false)) }
     {
         self.first && !self.held
+    }
+
+    /// Is it eligible, and of the bank of a number?
+    pub(crate) fn is_of_bank(&self, bank: usize) -> bool
+        ensures { IsTrue result ↔ (IsFree self.now × (self.now.bank ≡ bank)) }
+    {
+        self.bank as usize == bank && self.is_free()
+    }
+
+    /// Is it one of those that want a row by one kind of command?
+    pub(crate) fn is_hit(&self, bank: usize, row: u64, kind: Kind) -> bool
+        ensures { IsTrue result ↔ ((IsFree self.now × (self.now.bank ≡ bank)) × (self.now.row ≡ row)
+            × (self.now.kind ≡ kind)) }
+    {
+        self.is_of_bank(bank) && self.row == row && self.kind == kind
     }
 
     /// The request's bank.

@@ -14,6 +14,8 @@ pub mod laws;
 mod line_counts;
 pub mod margin;
 pub mod next;
+mod noted_look;
+mod notes;
 pub mod pending;
 pub mod queue;
 mod scan;

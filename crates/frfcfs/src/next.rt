@@ -11,7 +11,6 @@ ghost use Rattle.frfcfs.specs.Margin.{IsIdle, KeepsMargin, last_clock};
 use crate::hits::hit_banks;
 use crate::pending::Pending;
 use crate::queue::Queue;
-use crate::scan::find_soonest;
 use crate::search::{first_of, search};
 use bank_core::banks::Banks;
 use ddr4_timing::command::Command;
@@ -72,7 +71,8 @@ fn has_work(banks: &Banks, any: bool, clock: u64) -> bool
 /// each rank that is awake keeps the time for its refresh (JESD79-4, which lets a REF be put off by eight intervals).
 ///
 /// The clauses on lists are on every list that the banks stand for, whose last command went at `now` and in which each rank
-/// has its time. It takes no memory, looks at each request once, and asks for the clock of each bank and kind once.
+/// has its time. It takes no memory, and looks at each bank that has a request once; at each request too where `Queue::follow`
+/// wasn't told of the rows that are open.
 pub fn next_command(banks: &Banks, queue: &Queue, now: u64) -> Option<Next>
     requires { All (λ p. LiesIn banks.now.checked.geometry p.place) queue.now.requests }
     ensures early { IfSome result (λ next. next.clock < 2 ^ 63) }
@@ -92,10 +92,10 @@ pub fn next_command(banks: &Banks, queue: &Queue, now: u64) -> Option<Next>
     if now >= 1 << 62 {
         return None;
     }
-    let (pending, keys) = (queue.requests(), queue.keys());
-    let soonest = find_soonest(banks, pending, keys, now, (1 << 63) - 1);
+    let last = (1 << 63) - 1;
+    let soonest = queue.soonest(banks, now, last);
     if !has_work(banks, soonest.any, now) {
         return None;
     }
-    first_of(banks, pending, soonest.bests, now, (1 << 63) - 1)
+    first_of(banks, queue.requests(), soonest.bests, now, last)
 }

@@ -3,15 +3,19 @@ ghost use Rattle.std.specs.Prelude.{◌≡◌, ◌≢◌, ◌↔◌, ◌+◌, �
 ghost use Rattle.ddr4_timing.specs.Places.{LiesIn};
 ghost use Rattle.frfcfs.specs.declared.pending.Pending.{Pending};
 ghost use Rattle.frfcfs.specs.Requests.{AreInOrder};
-ghost use Rattle.frfcfs.specs.Keys.{AreHeldBy, AreKeys, firsts_of};
+ghost use Rattle.frfcfs.specs.Keys.{AreKeys, AreToldBy, firsts_of};
 ghost use Rattle.frfcfs.specs.LineCounts.{AreCounts};
-ghost use Rattle.frfcfs.specs.Queue.{AreFirsts, KeepsRequests, IsOldestOf, MarksOldest, Waiting, held_by, is_held, numbered_from, writes_among};
+ghost use Rattle.frfcfs.specs.Notes.{IsMarked};
+ghost use Rattle.frfcfs.specs.Queue.{KeepsRequests, IsOldestOf, MarksOldest, Waiting, held_by, is_held, numbered_from, writes_among};
 
 mod copying;
+mod looking;
 
 use crate::key::{Key, bank_number};
 use crate::line_counts::LineCounts;
+use crate::notes::Notes;
 use crate::pending::{Kind, Pending};
+use ddr4_timing::command::Command;
 use ddr4_timing::place::Place;
 use ddr4_timing::timing::Geometry;
 use gap_list::GapList;
@@ -26,6 +30,7 @@ pub struct Queue {
     pending: GapList<Pending>,
     keys: GapList<Key>,
     counts: LineCounts,
+    notes: Notes,
     next: u64,
 }
 
@@ -35,7 +40,7 @@ impl Model for Queue {
     ghost view = { λ q. record { most = q.pending.most; next = q.next; requests = q.pending.items } };
 
     ghost invariant = { λ q. KeepsRequests (record { most = q.pending.most; next = q.next; requests = q.pending.items })
-        q.keys q.counts };
+        q.keys q.counts q.notes };
 }
 
 // Is the line that of no key? The counts are those of their lines.
@@ -54,22 +59,26 @@ fn oldest_of(keys: &[Key], line: u64) -> Option<usize>
     keys.iter().position(|key| key.line == line)
 }
 
-// Marks the oldest request of a line. The counts are those of all their lines.
-fn mark_oldest(keys: &mut GapList<Key>, counts: &LineCounts, line: u64)
+// Marks the oldest request of a line, and gives its key. The counts are those of all their lines.
+fn mark_oldest(keys: &mut GapList<Key>, counts: &LineCounts, line: u64) -> Option<Key>
     ensures marks { (pending : List Pending) → AreKeys pending keys.old.items →
         AreCounts (map (λ p. p.line) pending) counts.now →
         MarksOldest line keys.old.items (firsts_of keys.old.items) (firsts_of keys.new.items) }
     ensures keys { (pending : List Pending) →
         AreKeys pending keys.old.items → AreKeys pending keys.new.items }
     ensures most { keys.new.most ≡ keys.old.most }
+    ensures marked { IsMarked keys.old.items result keys.new.items }
 {
     if counts.lack(line) {
-        return;
+        return None;
     }
-    if let Some(place) = oldest_of(keys.as_slice(), line) {
-        let key = keys.as_slice()[place];
-        keys.set(place, Key { first: true, ..key });
-    }
+    let place = oldest_of(keys.as_slice(), line)?;
+    let key = Key {
+        first: true,
+        ..keys.as_slice()[place]
+    };
+    keys.set(place, key);
+    Some(key)
 }
 
 /// Whether a request is held, where writes from a number on are.
@@ -93,16 +102,16 @@ fn hold_each(pending: &mut GapList<Pending>, from: Option<u64>)
     }
 }
 
-// Gives each key the mark of its request.
-fn hold_keys(keys: &mut GapList<Key>, pending: &[Pending])
+// Gives each key the seq and the mark of its request.
+fn tell_keys(keys: &mut GapList<Key>, pending: &[Pending])
     requires { length keys.old.items ≡ length pending.now }
-    ensures held { AreHeldBy pending.now keys.old.items keys.new.items }
+    ensures told { AreToldBy pending.now keys.old.items keys.new.items }
     ensures most { keys.new.most ≡ keys.old.most }
 {
     for place in 0..pending.len() {
         let key = keys.as_slice()[place];
-        let held = pending[place].held;
-        keys.set(place, Key { held, ..key });
+        let Pending { seq, held, .. } = pending[place];
+        keys.set(place, Key { seq, held, ..key });
     }
 }
 
@@ -127,6 +136,7 @@ impl Queue {
             pending: GapList::with_room(alloc, most)?,
             keys: GapList::with_room(alloc, most)?,
             counts: LineCounts::none(),
+            notes: Notes::none(),
             next: 0,
         })
     }
@@ -160,14 +170,6 @@ impl Queue {
         self.requests().iter().all(|p| p.place.lies_in(geometry))
     }
 
-    /// A key of each request.
-    pub(crate) fn keys(&self) -> &[Key]
-        ensures keys { AreKeys self.now.requests result.now }
-        ensures firsts { AreFirsts (map (λ p. p.line) self.now.requests) (firsts_of result.now) }
-    {
-        self.keys.as_slice()
-    }
-
     /// Adds a request behind the others. It looks at each of them where one has a line of the same low bits.
     pub fn push(&mut self, place: Place, line: u64, kind: Kind, number: u64, held: bool)
         requires room { length self.old.requests < self.old.most }
@@ -187,14 +189,17 @@ impl Queue {
             number,
             held,
         });
-        self.keys.push(Key {
+        let key = Key {
+            seq: self.next,
             row: place.row,
             line,
             bank: bank_number(&place),
             kind,
             first,
             held,
-        });
+        };
+        self.notes.add(&key);
+        self.keys.push(key);
         self.next += 1;
     }
 
@@ -206,9 +211,11 @@ impl Queue {
         ensures left { self.new ≡ record self.old { requests = remove self.old.requests place } }
     {
         let taken = self.pending.take(place);
-        self.keys.take(place);
+        let key = self.keys.take(place);
+        self.notes.forget(self.keys.as_slice(), &key, place);
         self.counts.forget(taken.line);
-        mark_oldest(&mut self.keys, &self.counts, taken.line);
+        let marked = mark_oldest(&mut self.keys, &self.counts, taken.line);
+        self.notes.mark(marked);
         taken
     }
 
@@ -217,7 +224,8 @@ impl Queue {
         ensures { self.new ≡ record self.old { requests = map (held_by from) self.old.requests } }
     {
         hold_each(&mut self.pending, from);
-        hold_keys(&mut self.keys, self.pending.as_slice());
+        tell_keys(&mut self.keys, self.pending.as_slice());
+        self.notes.renew(self.keys.as_slice());
     }
 
     /// Drops the reads, and numbers the writes anew from 0. It takes each read out.
@@ -228,7 +236,16 @@ impl Queue {
     {
         self.drop_reads();
         number_each(&mut self.pending);
+        tell_keys(&mut self.keys, self.pending.as_slice());
+        self.notes.renew(self.keys.as_slice());
         self.next = self.pending.len() as u64;
+    }
+
+    /// Notes that a command goes, so that the next look finds the banks as they are noted: a queue doesn't know them.
+    pub fn follow(&mut self, cmd: &Command)
+        ensures { self.new ≡ self.old }
+    {
+        self.notes.follow(self.keys.as_slice(), cmd);
     }
 
     // Takes the reads out.

@@ -13,6 +13,7 @@ impl Queue {
             pending: self.pending.copy(alloc)?,
             keys: self.keys.copy(alloc)?,
             counts: self.counts,
+            notes: self.notes,
             next: self.next,
         })
     }

@@ -84,6 +84,7 @@ impl Bench {
         }
         let next = next_command(&self.banks, &self.queue, self.now)?;
         self.banks.issue(next.cmd, next.clock);
+        self.queue.follow(&next.cmd);
         self.now = next.clock;
         if let Some(place) = next.serves {
             self.queue.take(place);

@@ -2,7 +2,7 @@
 use crate::tests::check::same;
 use bank_core::banks::Banks;
 use ddr4_timing::place::Place;
-use ddr4_timing::profiles::{LARGEST, SHORT_ROWS, SMALL, TIGHT};
+use ddr4_timing::profiles::{LARGEST, SHORT_ROWS, SMALL, TIGHT, WIDEST};
 use ddr4_timing::timing::Geometry;
 use frfcfs::next::{choose, next_command};
 use frfcfs::pending::{Kind, Pending};
@@ -18,10 +18,19 @@ enum Crowd {
     Apart,
 }
 
+// Which of its commands the queue is told. What it isn't told may not change the choice.
+#[derive(Clone, Copy)]
+enum Told {
+    Each,
+    Some,
+    None,
+}
+
 // A place of a crowd that a number picks.
 fn picked(geometry: &Geometry, crowd: Crowd, mix: u64) -> Place {
+    let channel = geometry.channels.saturating_sub(1);
     let first = Place {
-        channel: 0,
+        channel,
         rank: 0,
         group: 0,
         bank: 0,
@@ -39,7 +48,7 @@ fn picked(geometry: &Geometry, crowd: Crowd, mix: u64) -> Place {
             ..first
         },
         Crowd::Apart => Place {
-            channel: 0,
+            channel,
             rank: mix / 7 % geometry.ranks.max(1),
             group: mix / 29 % geometry.groups.max(1),
             bank: mix / 11 % geometry.banks.max(1),
@@ -79,10 +88,16 @@ struct Channel {
     mix: u64,
     writes: u64,
     hold: Option<u64>,
+    told: Told,
 }
 
 impl Channel {
-    fn new<R: Abort + AllocGlobal>(rt: &R, geometry: &Geometry, most: usize) -> Channel {
+    fn new<R: Abort + AllocGlobal>(
+        rt: &R,
+        geometry: &Geometry,
+        most: usize,
+        told: Told,
+    ) -> Channel {
         let checked = TIGHT.check(geometry).expect(rt, "a profile");
         Channel {
             banks: Banks::new(&checked),
@@ -91,6 +106,7 @@ impl Channel {
             mix: 1,
             writes: 0,
             hold: None,
+            told,
         }
     }
 
@@ -136,6 +152,15 @@ impl Channel {
         self.queue.hold(self.hold);
     }
 
+    // Whether the queue is told of the command that goes now.
+    fn tells(&mut self) -> bool {
+        match self.told {
+            Told::Each => true,
+            Told::Some => self.pick() % 2 == 0,
+            Told::None => false,
+        }
+    }
+
     // Goes to the next command, which is the choice at its clock over the list; no clock before has one.
     fn step<R: Abort>(&mut self, rt: &R) {
         let geometry = self.banks.checked().geometry;
@@ -154,15 +179,18 @@ impl Channel {
                 if let Some(place) = next.serves {
                     self.queue.take(place);
                 }
+                if self.tells() {
+                    self.queue.follow(&next.cmd);
+                }
             }
         }
     }
 
-    // So many commands of a crowd, with a hold that begins or ends before each second one.
+    // So many commands of a crowd. Between any two of them a hold may begin, end or do both.
     fn run<R: Abort>(&mut self, rt: &R, crowd: Crowd, steps: u64) {
-        for step in 0..steps {
+        for _ in 0..steps {
             self.fill(rt, crowd, 128);
-            if step % 2 == 1 {
+            for _ in 0..self.pick() % 3 {
                 self.turn_hold();
             }
             self.step(rt);
@@ -170,30 +198,64 @@ impl Channel {
     }
 }
 
-// Each crowd over a geometry.
-fn crowds<R: Abort + AllocGlobal>(rt: &R, geometry: &Geometry, most: usize, steps: u64) {
-    let mut channel = Channel::new(rt, geometry, most);
-    channel.run(rt, Crowd::Line, steps);
-    channel.run(rt, Crowd::Row, steps);
-    channel.run(rt, Crowd::Bank, steps);
-    channel.run(rt, Crowd::Apart, steps.saturating_mul(4));
+// Each crowd over each of some geometries.
+fn crowds<R: Abort + AllocGlobal>(
+    rt: &R,
+    geometries: &[Geometry],
+    most: usize,
+    steps: u64,
+    told: Told,
+) {
+    for geometry in geometries {
+        let mut channel = Channel::new(rt, geometry, most, told);
+        channel.run(rt, Crowd::Line, steps);
+        channel.run(rt, Crowd::Row, steps);
+        channel.run(rt, Crowd::Bank, steps);
+        channel.run(rt, Crowd::Apart, steps.saturating_mul(4));
+    }
 }
+
+// Four channels of two ranks.
+const TWO_RANKS: Geometry = Geometry {
+    channels: 4,
+    ranks: 2,
+    groups: 4,
+    banks: 4,
+    rows: 8,
+    columns: 8,
+};
+
+// Channels of one, two and four ranks, of two groups and of four, alone and beside others.
+const GEOMETRIES: [Geometry; 5] = [SMALL, SHORT_ROWS, TWO_RANKS, WIDEST, LARGEST];
 
 #[test]
 fn crowds_of_one_request(rt: HostRuntime) {
-    crowds(&rt, &SMALL, 1, 100);
-    crowds(&rt, &SHORT_ROWS, 1, 100);
-    crowds(&rt, &LARGEST, 1, 100);
+    crowds(&rt, &GEOMETRIES, 1, 100, Told::Each);
+    crowds(&rt, &GEOMETRIES, 1, 50, Told::Some);
 }
 
 #[test]
 fn crowds_of_some_requests(rt: HostRuntime) {
-    crowds(&rt, &SMALL, 9, 100);
-    crowds(&rt, &SHORT_ROWS, 9, 100);
-    crowds(&rt, &LARGEST, 9, 100);
+    crowds(&rt, &GEOMETRIES, 9, 60, Told::Each);
+    crowds(&rt, &GEOMETRIES, 9, 60, Told::Some);
+}
+
+#[test]
+fn crowds_that_nothing_is_told(rt: HostRuntime) {
+    crowds(&rt, &GEOMETRIES, 9, 60, Told::None);
 }
 
 #[test]
 fn crowds_of_the_most_requests(rt: HostRuntime) {
-    crowds(&rt, &LARGEST, 128, 50);
+    crowds(&rt, &[LARGEST], 128, 50, Told::Each);
+}
+
+#[test]
+fn crowds_of_the_most_requests_of_two_groups(rt: HostRuntime) {
+    crowds(&rt, &[SMALL, SHORT_ROWS], 128, 25, Told::Some);
+}
+
+#[test]
+fn crowds_of_the_most_requests_beside_other_channels(rt: HostRuntime) {
+    crowds(&rt, &[TWO_RANKS, WIDEST], 128, 25, Told::Each);
 }

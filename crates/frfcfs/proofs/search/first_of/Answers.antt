@@ -26,16 +26,16 @@ returns-then-column-row-clause-next c list s =
     (λ request cmd at wants. wants.1 ∙ sym (c.column.ensures ∙ ap (λ (p : Pending). column_of p.kind p.place) (get_or_from_slice_get c.args.pending.now _ request _ at)))
 
 pub bounds-pending-row : goal.bounds-pending-row
-bounds-pending-row c = let found = c.requires.found.1 (omega arith) in slice_get_within c.args.pending.now _ found.1.0 found.1.1.0.here
+bounds-pending-row c = let found = c.requires.found.1 (omega (arith, c.if-column-row.false)) (omega arith) in slice_get_within c.args.pending.now _ found.1.0 found.1.1.0.here
 
 pub row_command-requires : goal.row_command-requires
 row_command-requires c =
-    let found = c.requires.found.1 (omega arith) in
+    let found = c.requires.found.1 (omega (arith, c.if-column-row.false)) (omega arith) in
     rw (get_or_from_slice_get c.args.pending.now _ found.1.0 _ found.1.1.0.here) found.1.1.1
 
 pub returns-clause-next : goal.returns-clause-next
 returns-clause-next c list s =
-    let found = c.requires.found.1 (omega arith) in
+    let found = c.requires.found.1 (omega (arith, c.if-column-row.false)) (omega arith) in
     row_next c.args.banks.now.checked list c.args.pending.now c.args.now c.args.last _ c.args.bests _ c.requires.order (c.requires.best list s) (c.in_default.ensures.next list s) (omega arith)
     found.0 (omega arith) c.if-column-row.false (omega arith) refl
     (λ request cmd at wants. sym (c.row_command.ensures list c.args.pending.now cmd s (rw (get_or_from_slice_get c.args.pending.now _ request _ at) wants)))

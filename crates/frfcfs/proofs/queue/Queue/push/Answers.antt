@@ -26,4 +26,4 @@ invariant_of-self c =
     subst (λ (keys : List Key). (requests : List Pending) → AreKeys requests keys → AreCounts (lines requests) inside.counts → (IsTrue c.is_new-first.result ↔ All (λ key. key.line ≢ c.args.line) keys)) c.as_slice.ensures c.is_new-first.ensures
     w.requests c.self.invariant.keyed c.self.invariant.counted in
     rw (c.push.ensures, c.push-2.ensures)
-    (kept_push w inside.keys p _ inside.counts c.add.new.self c.self.invariant room refl first (record { row = refl; line = refl; bank = c.bank_number.ensures; kind = refl; held = refl }) c.add.ensures)
+    (kept_push w inside.keys p _ inside.counts c.add.new.self inside.notes c.add-2.new.self c.self.invariant room refl first (record { seq = refl; row = refl; line = refl; bank = c.bank_number.ensures; kind = refl; held = refl }) c.add.ensures c.add-2.ensures)
