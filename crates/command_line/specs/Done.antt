@@ -10,7 +10,7 @@ use Rattle.command_line.specs.Drawn.{HasSchedule}
 use Rattle.command_line.specs.Lint.{TellsBadLines}
 use Rattle.command_line.specs.Profile.{ExplainsProfile}
 use Rattle.command_line.specs.Store.{ShowsNamed}
-use Rattle.command_line.specs.Verbs.{profile_word, schedule_word, script_word, word_of}
+use Rattle.command_line.specs.Verbs.{profile_word, script_word, word_of}
 use Rattle.run_command.specs.Whole.{IsToldRun}
 
 -- each verb that tells something of what its words name told that of them, and the status is as it came out
@@ -23,5 +23,5 @@ pub record IsDone (gives : List ℕ → List ℕ → Type 0) (verb : List ℕ) (
   pub crash : verb ≡ codes "crash" → OfScriptNamed gives (profile_word matches) (script_word matches)
       (λ profile script. IsCrashTold profile script old new)
   pub check : verb ≡ codes "check" → HasVerdictBy gives matches code
-  pub draw : verb ≡ codes "draw" → (exit_status code ≡ 0) × HasSchedule gives (profile_word matches) (schedule_word matches)
+  pub draw : verb ≡ codes "draw" → (exit_status code ≡ 0) × HasSchedule gives matches
   pub profile : verb ≡ codes "profile" → ExplainsProfile gives (profile_word matches) old new

@@ -1,9 +1,9 @@
 // A schedule drawn: of a trace, or of all commands of a script.
-ghost use Rattle.std.specs.Prelude.{◌≡◌, IfErr, IfOk, IfSome, IsSome, OnOk};
+ghost use Rattle.std.specs.Prelude.{◌≡◌, false, IfErr, IfOk, IfSome, IsSome, OnOk};
 ghost use Rattle.std.specs.Process.{exit_status};
 ghost use Rattle.command_faults.specs.Exit.{IsOfFile, status_of};
-ghost use Rattle.command_line.specs.Drawn.{ArePicturesOf, DrawsScript, DrawsScriptBy, DrawsSome, DrawsTraceBy, HasSchedule, IsDrawnBy, IsRangeShown, IsReadBy, IsScheduleNamed};
-ghost use Rattle.command_line.specs.Verbs.{profile_word, schedule_word};
+ghost use Rattle.command_line.specs.Check.{IsReadAs};
+ghost use Rattle.command_line.specs.Drawn.{ArePicturesOf, DrawsCommands, DrawsScript, DrawsScriptBy, DrawsTraceBy, HasSchedule, IsDrawnBy, IsRangeShown, IsReadBy, IsScheduleNamed};
 
 use crate::check::of_trace;
 use crate::command::word_or;
@@ -48,8 +48,8 @@ pub(crate) fn draw<'a, R, W>(
 where
     R: Files + FileHost + AllocGlobal,
     W: Write,
-    ensures { IfOk result (λ code. (exit_status code ≡ 0) × HasSchedule (R.gives rt.now)
-        (profile_word matches.now) (schedule_word matches.now)) }
+    ensures { IfOk result (λ code. (exit_status code ≡ 0)
+        × HasSchedule (R.gives rt.now) matches.now) }
 {
     let pictures = pictures_asked(rt, matches)?;
     let mut schedule = schedule_asked(rt, matches)?;
@@ -113,8 +113,7 @@ fn schedule_asked<'a, R: FileHost + AllocGlobal>(
     rt: &R,
     matches: &ArgMatches<'a>,
 ) -> Result<Schedule, Failure<'a>>
-    ensures { IfOk result (IsScheduleNamed (R.gives rt.now) (profile_word matches.now)
-        (schedule_word matches.now)) }
+    ensures { IfOk result (IsScheduleNamed (R.gives rt.now) matches.now) }
 {
     let form = form_asked(rt.alloc(), matches)?;
     let name = word_or(matches, "SCHEDULE", "-");
@@ -147,7 +146,7 @@ fn schedule_of<'a, R: FileHost + AllocGlobal>(
     form: Option<Form>,
     bytes: &[u8],
 ) -> Result<Schedule, Failure<'a>>
-    ensures { IfOk result (IsDrawnBy (R.gives rt.now) word.entry.now bytes.now) }
+    ensures { IfOk result (IsDrawnBy (R.gives rt.now) word.entry.now form bytes.now) }
 {
     if form.is_some() || is_trace(bytes) {
         trace_drawn(rt, word, name, form, bytes)
@@ -164,7 +163,7 @@ fn trace_drawn<'a, R: FileHost + AllocGlobal>(
     form: Option<Form>,
     bytes: &[u8],
 ) -> Result<Schedule, Failure<'a>>
-    ensures { IfOk result (DrawsTraceBy (R.gives rt.now) word.entry.now) }
+    ensures { IfOk result (DrawsTraceBy (R.gives rt.now) word.entry.now form bytes.now) }
 {
     let rules = rules_of(rt, word)?;
     match schedule_drawn(rt.alloc(), &rules, form, bytes) {
@@ -201,18 +200,25 @@ fn is_trace(bytes: &[u8]) -> bool {
     false
 }
 
+// The form in which a trace is drawn.
+fn form_drawn(alloc: Global, asked: Option<Form>, bytes: &[u8]) -> Result<Form, TraceFault>
+    ensures { IfOk result (IsReadAs asked false) }
+{
+    match asked {
+        Some(form) => Ok(form),
+        None => form_of(alloc, bytes, false),
+    }
+}
+
 fn schedule_drawn(
     alloc: Global,
     rules: &CommandRules,
-    form: Option<Form>,
+    asked: Option<Form>,
     bytes: &[u8],
 ) -> Result<Schedule, TraceFault>
-    ensures { IfOk result (DrawsSome rules.now) }
+    ensures { IfOk result (DrawsCommands rules.now asked bytes.now) }
 {
-    let form = match form {
-        Some(form) => form,
-        None => form_of(alloc, bytes, false)?,
-    };
+    let form = form_drawn(alloc, asked, bytes)?;
     let mut reader = TraceReader::new(alloc, bytes, form, rules.geometry.channels);
     trace_schedule(alloc, rules, &mut reader)
 }

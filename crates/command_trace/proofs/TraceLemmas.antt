@@ -1,5 +1,5 @@
 -- How the rows of a trace say its commands, row after row.
-use Rattle.std.proofs.Common.{◌≡◌, ◌∙◌, ℕ, Bool, true, false, List, [], ◌∷◌, ◌++◌, Option, Some, None, append_assoc, ap, inl, is_some, refl, subst, sym}
+use Rattle.std.proofs.Common.{◌≡◌, ◌∙◌, ℕ, Bool, true, false, List, [], ◌∷◌, ◌++◌, Option, Some, None, append_assoc, ap, IfOk, inl, is_some, refl, Err, Ok, Result, subst, sym}
 use Rattle.std.proofs.lemmas.List.{append-nil}
 use Rattle.std.specs.Borrow.{Bor}
 use Rattle.std.specs.Fmt.{with_newline}
@@ -13,7 +13,7 @@ use Rattle.csv.specs.declared.parser.State.TheVariants.{StartRecord}
 use Rattle.csv.specs.declared.reader.Reader.{Reader}
 use Rattle.csv.specs.declared.reader.Trim.TheVariants as trim
 use Rattle.command_trace.specs.Rows.{RowSays, words_of_row}
-use Rattle.command_trace.specs.Traces.{AreCommandsOf, HasRead, HasReadNext, HasReached, ReadsRows, RowsSay, config_of, delimiter_of, rows_left, text_of}
+use Rattle.command_trace.specs.Traces.{AreCommandsOf, AreFirstOf, HasRead, HasReadNext, HasReached, ReadsRows, RowsSay, config_of, delimiter_of, rows_left, text_of}
 use Rattle.command_trace.specs.declared.entry.Located.{Located}
 use Rattle.command_trace.specs.declared.reading.Form.{Form}
 use Rattle.command_trace.specs.declared.reading.TraceReader.{TraceReader}
@@ -119,6 +119,19 @@ reads_end remaining (Some known) old new found row may h =
       say = h.say;
     }
 
+-- what was read is the first of a trace
+pub first_read : {R : Type 0} (remaining : R → Option (List ℕ)) (bytes : Option (List ℕ)) (reader : TraceReader R) (found : List Located) → HasRead remaining bytes reader found
+    → AreFirstOf reader.form bytes found
+first_read remaining None reader found h = record { rows = h.rows; has_header = reader.has_header; of_bytes = tt; say = h.say }
+first_read remaining (Some known) reader found h =
+    record { rows = h.rows; has_header = reader.has_header; of_bytes = (reader_state reader.rows, h.reached.0, h.reached.2); say = h.say }
+
+-- and so are all
+pub first_all : (form : Form) (bytes : Option (List ℕ)) (found : List Located) → AreCommandsOf form bytes found → AreFirstOf form bytes found
+first_all form None found are = record { rows = are.rows; has_header = are.has_header; of_bytes = tt; say = are.say }
+first_all form (Some known) found are =
+    record { rows = are.rows; has_header = are.has_header; of_bytes = (are.of_bytes.0, are.of_bytes.1, are.of_bytes.2); say = are.say }
+
 -- of bytes that no one knows
 pub unknown : (form : Form) (bytes : Option (List ℕ)) (found : List Located) → AreCommandsOf form bytes found → AreCommandsOf form None found
 unknown form bytes found are = record { rows = are.rows; has_header = are.has_header; of_bytes = tt; say = are.say }
@@ -132,3 +145,18 @@ none_of (Some x) none = absurd (none x refl)
 pub reads_all : {R : Type 0} (remaining : R → Option (List ℕ)) (bytes : Option (List ℕ)) (form : Form) (reader : TraceReader R) (found : List Located) (next : Option Located) → next ≡ None
     → HasReadNext remaining bytes form reader found next → AreCommandsOf form bytes found
 reads_all remaining bytes form reader found next none h = subst (λ (o : Option Located). HasReadNext remaining bytes form reader found o) none h
+
+-- and so what was given stays
+pub given_none : (new old : List Located) (next : Option Located) → new ≡ old ++ option_to_list next → next ≡ None → new ≡ old
+given_none new old next given none = given ∙ ap (λ (o : Option Located). old ++ option_to_list o) none ∙ append-nil old
+
+-- a command came, and is given
+pub reads_given : {R : Type 0} (remaining : R → Option (List ℕ)) (bytes : Option (List ℕ)) (form : Form) (reader : TraceReader R) (found : List Located) (next : Option Located) (it : Located) → next ≡ Some it
+    → reader.given.items ≡ found ++ it ∷ [] → HasReadNext remaining bytes form reader found next → HasRead remaining bytes reader reader.given.items
+reads_given remaining bytes form reader found next it some given h =
+    subst (λ (l : List Located). HasRead remaining bytes reader l) (sym given) (subst (λ (o : Option Located). HasReadNext remaining bytes form reader found o) some h)
+
+-- what two clauses say of the value of a call
+pub both_ok : {T E : Type 0} (result : Result T E) (P Q R : T → Type 0) → ((value : T) → P value → Q value → R value) → IfOk result P → IfOk result Q → IfOk result R
+both_ok (Ok value) P Q R both p q = both value p q
+both_ok (Err fault) P Q R both p q = tt

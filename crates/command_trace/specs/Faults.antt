@@ -1,11 +1,11 @@
 -- Why a command may not follow those before it.
-use Rattle.std.specs.Prelude.{◌≡◌, ℕ, ◌<◌, ◌⊎◌, Some, length, slice_get, slice_index}
+use Rattle.std.specs.Prelude.{◌≡◌, ℕ, ◌<◌, ◌⊎◌, List, [], ◌∷◌, ◌++◌, Some, length, slice_get, slice_index}
 use Rattle.ddr4_timing.specs.Lawful.{MayComeNext, ObeysRule, ObeysRulesBefore}
 use Rattle.ddr4_timing.specs.declared.rules.Rule.{Rule}
 use Rattle.ddr4_timing.specs.declared.rules.Rule.TheVariants.{Rows}
 use Rattle.ddr4_timing.specs.declared.timing.CommandRules.{CommandRules}
 use Rattle.command_trace.specs.Reasons.{IsReasonOf}
-use Rattle.auto_precharge.specs.Unfolding.{IsOpenFor, Unfolded}
+use Rattle.auto_precharge.specs.Unfolding.{IsLawfulTrace, IsOpenFor, Unfolded, settled, unfolded}
 use Rattle.auto_precharge.specs.declared.issued.Issued.{Issued}
 use Rattle.command_trace.specs.declared.diagnosis.Diagnosis.{Diagnosis}
 
@@ -28,3 +28,11 @@ pub record IsWhy (r : CommandRules) (u : Unfolded) (x : Issued) (d : Diagnosis) 
   pub first : d.fault.first < length u.list → slice_get u.list d.fault.first ≡ Some d.first.command
   pub first_line : d.fault.first < length u.list → d.first.line ≡ slice_index u.lines d.fault.first
   pub reason : IsReasonOf r d.fault.rule u.list d.first.command d.second.command d.reason
+
+-- The last command of a channel's is the first that may not follow those before it, and this is why.
+pub record EndsAtFault (r : CommandRules) (found : List Issued) (d : Diagnosis) : Type 0 where
+  pub before : List Issued
+  pub last : Issued
+  pub found_is : found ≡ before ++ last ∷ []
+  pub lawful : IsLawfulTrace r before
+  pub why : IsWhy r (settled last.command.clock (unfolded r.timing before)) last d

@@ -5,6 +5,7 @@ use Rattle.std.specs.Io.Chain.{chain_remaining}
 use Rattle.std.specs.Option.{option_to_list}
 use Rattle.csv.specs.Reading.{AreRecords, Reached, Ready, default_config, reader_config, reader_state, reader_trim, source_of, strip_bom}
 use Rattle.csv.specs.declared.parser.Config.{Config}
+use Rattle.csv.specs.declared.parser.State.{State}
 use Rattle.csv.specs.declared.parser.State.TheVariants.{StartRecord}
 use Rattle.csv.specs.declared.parser.Terminator.TheVariants.{Any}
 use Rattle.csv.specs.declared.reader.Reader.{Reader}
@@ -47,6 +48,18 @@ pub record AreCommandsOf (form : Form) (bytes : Option (List ℕ)) (found : List
   pub rows : List (List (List ℕ))
   pub has_header : Bool
   pub of_bytes : IfSome bytes (λ known. AreRowsOf form known rows)
+  pub say : RowsSay form false rows found has_header
+
+-- these are the first rows of a trace, or all
+abbrev pub AreFirstRowsOf : Form → List ℕ → List (List (List ℕ)) → Type 0
+AreFirstRowsOf form bytes rows =
+    (state : State) × (left : List ℕ) × Reached (config_of (delimiter_of form)) StartRecord (text_of bytes) rows state left
+
+-- The commands are the first of a trace, or all: its first rows say them, and no others.
+pub record AreFirstOf (form : Form) (bytes : Option (List ℕ)) (found : List Located) : Type 0 where
+  pub rows : List (List (List ℕ))
+  pub has_header : Bool
+  pub of_bytes : IfSome bytes (λ known. AreFirstRowsOf form known rows)
   pub say : RowsSay form false rows found has_header
 
 -- what a reader of rows has left of its source and of the end of line behind it, where that is known

@@ -1,9 +1,9 @@
 // The check of a trace, and the commands of a channel in a list.
-ghost use Rattle.std.specs.Prelude.{◌≡◌, ℕ, [], ◌∷◌, ◌++◌, ◌≤◌, ◌<◌, ◌^◌, List, Option, length, slice_get, slice_index, take, Some, IfOk, OnOk};
+ghost use Rattle.std.specs.Prelude.{◌≡◌, ℕ, [], ◌∷◌, ◌++◌, ◌≤◌, ◌<◌, ◌^◌, ◌-◌, List, Option, length, slice_get, slice_index, Some, IfOk, OnOk};
 ghost use Rattle.command_trace.specs.Channels.{FollowsAll, Lists, found_up_to, issued_to};
 ghost use Rattle.auto_precharge.specs.FullLists.{AreEarly};
-ghost use Rattle.command_trace.specs.Reasons.{IsReasonOf};
-ghost use Rattle.command_trace.specs.Traces.{AreCommandsOf, HasRead};
+ghost use Rattle.command_trace.specs.Tallies.{IsToldAt};
+ghost use Rattle.command_trace.specs.Traces.{AreCommandsOf, AreFirstOf, HasRead};
 ghost use Rattle.command_trace.specs.declared.entry.Located.{Located};
 
 use crate::entry::Located;
@@ -59,13 +59,18 @@ pub fn list_commands<R: Read + Drop>(
     last: u64,
 ) -> Result<Listed, TraceFault>
     requires { reader.old.given.items ≡ [] }
-    ensures { IfOk result (λ listed.
+    ensures lists { IfOk result (λ listed.
         Lists channel listed (found_up_to last reader.new.given.items)) }
+    ensures whole { last ≡ 2 ^ 64 - 1 → IfOk result (λ listed.
+        Lists channel listed reader.new.given.items) }
+    ensures reads { last ≡ 2 ^ 64 - 1 → (bytes : Option (List ℕ)) →
+        HasRead R.remaining bytes reader.old [] → IfOk result (λ listed.
+        AreCommandsOf reader.old.form bytes reader.new.given.items) }
 {
     let mut listed = Listed::new(alloc);
     for _ in 0..u64::MAX {
         let Some(found) = reader.next()? else {
-            break;
+            return Ok(listed);
         };
         if found.line > last {
             return Ok(listed);
@@ -78,7 +83,8 @@ pub fn list_commands<R: Read + Drop>(
         }
         listed.take(channel, &found)?;
     }
-    Ok(listed)
+    // more commands than can be counted
+    Err(TraceFault::Reader)
 }
 
 /// Reads a trace as far as a line, and lists the commands of a channel with all that a trace tells of each.
@@ -92,18 +98,21 @@ pub fn list_issued<R: Read + Drop>(
     ensures is { IfOk result (λ listed.
         listed.items ≡ issued_to channel (found_up_to last reader.new.given.items)) }
     ensures early { IfOk result (λ listed. AreEarly listed.items) }
+    ensures reads { (bytes : Option (List ℕ)) → HasRead R.remaining bytes reader.old [] →
+        IfOk result (λ listed. AreFirstOf reader.old.form bytes reader.new.given.items) }
 {
     let mut listed = Vec::new(alloc);
     for _ in 0..u64::MAX {
         let Some(found) = reader.next()? else {
-            break;
+            return Ok(listed);
         };
         if last < found.line {
             return Ok(listed);
         }
         take_issued(&mut listed, channel, &found)?;
     }
-    Ok(listed)
+    // more commands than can be counted
+    Err(TraceFault::Reader)
 }
 
 // Takes the next command in where it goes to the channel.
@@ -199,12 +208,7 @@ pub(crate) fn told_at(
     requires order { fault.first ≤ fault.second }
     requires within { fault.second < length commands.now }
     ensures fault { result.fault ≡ fault }
-    ensures first { slice_get commands.now fault.first ≡ Some result.first.command }
-    ensures second { slice_get commands.now fault.second ≡ Some result.second.command }
-    ensures first_line { result.first.line ≡ slice_index lines.now fault.first }
-    ensures second_line { result.second.line ≡ slice_index lines.now fault.second }
-    ensures reason { IsReasonOf rules.now fault.rule
-        (take fault.second commands.now) result.first.command result.second.command result.reason }
+    ensures told { IsToldAt rules.now commands.now lines.now result }
 {
     let first = command_at(commands, lines, fault.first);
     let second = command_at(commands, lines, fault.second);

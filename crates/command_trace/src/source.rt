@@ -1,8 +1,9 @@
 // The check of a file's trace.
-ghost use Rattle.std.specs.Prelude.{◌<◌, ◌↔◌, IfOk, IsNone};
+ghost use Rattle.std.specs.Prelude.{◌<◌, ◌↔◌, IfOk, IfSome, IsNone};
 ghost use Rattle.command_trace.specs.Channels.{FollowsAll, issued_to};
 ghost use Rattle.auto_precharge.specs.FullLists.{AreEarly};
 ghost use Rattle.command_trace.specs.Reading.{IsFormWith};
+ghost use Rattle.command_trace.specs.Sources.{AreIssuedOf, ListsAll};
 ghost use Rattle.command_trace.specs.Traces.{AreCommandsOf};
 ghost use Rattle.auto_precharge.specs.Unfolding.{IsLawfulTrace};
 
@@ -29,7 +30,7 @@ pub enum Source<'a> {
 }
 
 impl Source<'_> {
-    ghost use Rattle.command_trace.specs.Sources.{bytes_of};
+    ghost use Rattle.command_trace.specs.Sources.{AreTalliesOf, HasFault, bytes_of};
 
     /// The form of its trace. `others` says whether other lines of a run are passed over.
     pub fn form<R: Files + AllocGlobal>(&self, rt: &R, others: bool) -> Result<Form, TraceFault>
@@ -58,17 +59,18 @@ impl Source<'_> {
         }
     }
 
-    // The commands of a channel as far as a line.
+    // All commands of a channel.
     fn list<R: Files + AllocGlobal>(
         &self,
         rt: &R,
         form: Form,
         channel: u64,
-        last: u64,
-    ) -> Result<Listed, TraceFault> {
+    ) -> Result<Listed, TraceFault>
+        ensures { IfOk result (ListsAll form (bytes_of self.now) channel) }
+    {
         match self {
-            Source::File(name) => list_of(rt.alloc(), open(rt, name)?, form, channel, last),
-            Source::Bytes(bytes) => list_of(rt.alloc(), bytes.as_slice(), form, channel, last),
+            Source::File(name) => list_of(rt.alloc(), open(rt, name)?, form, channel),
+            Source::Bytes(bytes) => list_of(rt.alloc(), bytes.as_slice(), form, channel),
         }
     }
 
@@ -80,7 +82,9 @@ impl Source<'_> {
         channel: u64,
         last: u64,
     ) -> Result<Vec<Issued>, TraceFault>
-        ensures { IfOk result (λ issued. AreEarly issued.items) }
+        ensures early { IfOk result (λ issued. AreEarly issued.items) }
+        ensures reads { IfOk result (λ issued.
+            AreIssuedOf form (bytes_of self.now) channel last issued.items) }
     {
         match self {
             Source::File(name) => issued_of(rt.alloc(), open(rt, name)?, form, channel, last),
@@ -99,8 +103,10 @@ impl Source<'_> {
         channel: u64,
     ) -> Result<Option<Diagnosis>, TraceFault>
         requires { channel < MOST_CHANNELS }
-        ensures { FollowsAll rules.now check.now → IfOk result (λ found. IsNone found
+        ensures none { FollowsAll rules.now check.now → IfOk result (λ found. IsNone found
             ↔ IsLawfulTrace rules.now (issued_to channel check.now.given.items)) }
+        ensures fault { FollowsAll rules.now check.now → IfOk result (λ found. IfSome found
+            (HasFault rules.now form (bytes_of self.now) channel check.now)) }
     {
         if check.is_lawful(rules, channel) {
             return Ok(None);
@@ -120,8 +126,11 @@ impl Source<'_> {
         form: Form,
         rules: &CommandRules,
         channel: u64,
-    ) -> Result<Vec<BrokenRule>, TraceFault> {
-        let listed = self.list(rt, form, channel, u64::MAX)?;
+    ) -> Result<Vec<BrokenRule>, TraceFault>
+        ensures { IfOk result (λ told.
+            AreTalliesOf rules.now form (bytes_of self.now) channel told.items) }
+    {
+        let listed = self.list(rt, form, channel)?;
         Ok(tallies(rt.alloc(), rules, &listed)?)
     }
 }
@@ -155,7 +164,9 @@ fn issued_of<S: Read + Drop>(
     channel: u64,
     last: u64,
 ) -> Result<Vec<Issued>, TraceFault>
-    ensures { IfOk result (λ issued. AreEarly issued.items) }
+    ensures early { IfOk result (λ issued. AreEarly issued.items) }
+    ensures reads { IfOk result (λ issued.
+        AreIssuedOf form (S.remaining trace) channel last issued.items) }
 {
     let mut reader = TraceReader::new(alloc, trace, form, MOST_CHANNELS);
     list_issued(alloc, &mut reader, channel, last)
@@ -166,8 +177,9 @@ fn list_of<S: Read + Drop>(
     trace: S,
     form: Form,
     channel: u64,
-    last: u64,
-) -> Result<Listed, TraceFault> {
+) -> Result<Listed, TraceFault>
+    ensures { IfOk result (ListsAll form (S.remaining trace) channel) }
+{
     let mut reader = TraceReader::new(alloc, trace, form, MOST_CHANNELS);
-    list_commands(alloc, &mut reader, channel, last)
+    list_commands(alloc, &mut reader, channel, u64::MAX)
 }

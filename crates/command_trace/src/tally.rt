@@ -1,7 +1,7 @@
 // How many commands break each rule.
 ghost use Rattle.std.specs.Prelude.{◌≡◌, IfOk, OnOk};
 ghost use Rattle.all_faults.specs.Faults.{AreFaultsOf};
-ghost use Rattle.command_trace.specs.Tallies.{AddsTally, AreTallies};
+ghost use Rattle.command_trace.specs.Tallies.{AddsTally, AreTallies, AreToldAt};
 
 use crate::diagnosis::{Diagnosis, Listed, told_at};
 use all_faults::{all_faults, count_of_rule, first_of_rule};
@@ -33,7 +33,9 @@ fn add_tally(
     rule: Rule,
 ) -> Result<(), AllocError>
     requires { AreFaultsOf rules.now listed.now.commands.items faults.now }
-    ensures { OnOk result (AddsTally faults.now rule tallies.old.items tallies.new.items) }
+    ensures adds { OnOk result (AddsTally faults.now rule tallies.old.items tallies.new.items) }
+    ensures first { AreToldAt rules.now listed.now tallies.old.items →
+        OnOk result (AreToldAt rules.now listed.now tallies.new.items) }
 {
     let Some(first) = first_of_rule(faults, rule) else {
         return Ok(());
@@ -50,8 +52,7 @@ pub fn tallies(
     rules: &CommandRules,
     listed: &Listed,
 ) -> Result<Vec<BrokenRule>, AllocError>
-    ensures { IfOk result (λ tallies.
-        AreTallies rules.now listed.now.commands.items tallies.items) }
+    ensures { IfOk result (λ tallies. AreTallies rules.now listed.now tallies.items) }
 {
     let faults = all_faults(alloc, rules, &listed.commands)?;
     let mut tallies = Vec::new(alloc);

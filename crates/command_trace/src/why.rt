@@ -1,14 +1,14 @@
 // Why a command of a channel may not follow those before it.
-ghost use Rattle.std.specs.Prelude.{◌≡◌, [], ◌∷◌, ◌++◌, ◌≤◌, ◌<◌, ◌^◌, ◌↔◌, List, length, slice_get, slice_index, Some, IfOk, IfSome, IsNone};
+ghost use Rattle.std.specs.Prelude.{◌≡◌, [], ◌∷◌, ◌++◌, ◌≤◌, ◌<◌, ◌^◌, ◌↔◌, List, length, slice_get, slice_index, Some, IfOk, IfSome, IsNone, IsTrue};
 ghost use Rattle.ddr4_timing.specs.Lawful.{MayComeNext};
 ghost use Rattle.auto_precharge.specs.FullLists.{AreEarly};
 ghost use Rattle.auto_precharge.specs.Unfolding.{IsLawfulTrace, IsOpenFor, MayFollow, Unfolded, settled, unfolded};
 ghost use Rattle.auto_precharge.specs.declared.issued.Issued.{Issued};
-ghost use Rattle.command_trace.specs.Faults.{BreaksAt, IsWhy};
+ghost use Rattle.command_trace.specs.Faults.{BreaksAt, EndsAtFault, IsWhy};
 
 use crate::diagnosis::{Diagnosis, NumberedCommand};
 use crate::reason::Reason;
-use auto_precharge::{Issued, unfold};
+use auto_precharge::{Issued, Unfolding, unfold};
 use ddr4_timing::command::Stamped;
 use ddr4_timing::fault::{Fault, fault_at};
 use ddr4_timing::rules::Rule;
@@ -94,6 +94,20 @@ fn told_of(rules: &CommandRules, commands: &[Stamped], lines: &[u64], last: &Iss
     }
 }
 
+// Are the commands of a channel lawful?
+fn are_lawful(rules: &CommandRules, found: &[Issued]) -> bool
+    requires { AreEarly found.now }
+    ensures { IsTrue result ↔ IsLawfulTrace rules.now found.now }
+{
+    let mut behind = Unfolding::new(rules);
+    for next in found {
+        if !behind.follow(rules, next) {
+            return false;
+        }
+    }
+    true
+}
+
 // Why a command may not follow those before it; none where it may.
 fn why_last(
     alloc: Global,
@@ -116,7 +130,7 @@ fn why_last(
     Ok(Some(told_of(rules, &full.commands, &full.lines, last)))
 }
 
-/// Why the last of a channel's commands may not follow those before it; none where it may, and of no command.
+/// Why the last of a channel's commands may not follow those before it, where it is the first that may not; none where it isn't.
 ///
 /// Of its faults the one of the lowest rule, then with the earliest first command.
 pub fn diagnose(
@@ -128,12 +142,14 @@ pub fn diagnose(
     ensures none { (before : List Issued) (x : Issued) → found.now ≡ before ++ x ∷ [] →
         IsLawfulTrace rules.now before → IfOk result (λ told.
         IsNone told ↔ MayFollow rules.now (unfolded rules.now.timing before) x.command) }
-    ensures fault { (before : List Issued) (x : Issued) → found.now ≡ before ++ x ∷ [] →
-        IsLawfulTrace rules.now before → IfOk result (λ told. IfSome told (
-        IsWhy rules.now (settled x.command.clock (unfolded rules.now.timing before)) x)) }
+    ensures fault { IfOk result (λ told. IfSome told (EndsAtFault rules.now found.now)) }
 {
     let Some(index) = found.len().checked_sub(1) else {
         return Ok(None);
     };
-    why_last(alloc, rules, &found[..index], &found[index])
+    let before = &found[..index];
+    if !are_lawful(rules, before) {
+        return Ok(None);
+    }
+    why_last(alloc, rules, before, &found[index])
 }

@@ -174,6 +174,8 @@ pub fn open<'m, M: LineMap, D: SaveDevice + Drop, E: Energy + Drop, R: Threads>(
     requires lawful { M.is_lawful map.now }
     requires geometry { M.geometry_of map.now ≡ profile.now.checked.geometry }
     ensures parts { IfOk result (λ ready. ready.tables.opening.parts ≡ hosts) }
+    ensures mark { IfOk result (λ ready.
+        ready.tables.opening.mark ≡ ready.recorded.running.front.persisted) }
     ensures new { IfOk result (λ ready. ready.recorded.history.writes ≡ []) }
     ensures restored { IfOk result (λ ready. RecordsRestored
         (restored (lines_of profile.now.checked.geometry) (D.state device).bytes)

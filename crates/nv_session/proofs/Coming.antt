@@ -6,7 +6,7 @@ use Rattle.nv_session.proofs.Common.{StopsWithin, Tale, assembly, point_of, pres
 use Rattle.nv_machine.specs.Headline.{Happens, RecoversAfterwards}
 use Rattle.nv_machine.proofs.Leaving.{left_after}
 use Rattle.module_core.proofs.RunsOn.{join_runs, one_run, rests_at, run_push}
-use Rattle.module_core.proofs.StoreSteps.{stop_now}
+use Rattle.module_saves.proofs.StoreSteps.{stop_now}
 
 module _ {K : Type 0} (L : Ghosts K) where
   -- whatever a stop leaves of a life's device is what the machine says

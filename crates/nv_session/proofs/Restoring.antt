@@ -23,7 +23,7 @@ use Rattle.nv_machine.specs.Guard.{IsPrefix, HasCause}
 use Rattle.nv_machine.specs.Headline.{RecoversAfterwards}
 use Rattle.nv_machine.proofs.SurvivedLives.{clear_where}
 use Rattle.module_core.specs.ModuleLives.{LifeSoFar}
-use Rattle.module_core.proofs.StoreSteps.{stop_now}
+use Rattle.module_saves.proofs.StoreSteps.{stop_now}
 use Rattle.nv_session.proofs.Coming.{left_by_life}
 
 among_only : (slot : Slot) (image : Image) (found : Outcome) → IsAmong (only slot image) found → found ≡ outcome.Found slot image

@@ -62,3 +62,6 @@ lawful_in is_json channel count = fields_in is_json (codes "lawful") (lawful_fie
 
 abbrev pub fault_in : Bool → ℕ → Diagnosis → List ℕ → List ℕ
 fault_in is_json channel found why = fields_in is_json (codes "fault") (fault_fields channel found why)
+
+abbrev pub tally_in : Bool → ℕ → BrokenRule → List ℕ → List ℕ
+tally_in is_json channel tally why = fields_in is_json (codes "faults") (tally_fields channel tally why)

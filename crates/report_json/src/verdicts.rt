@@ -2,10 +2,11 @@
 ghost use Rattle.std.specs.Prelude.{◌≡◌, ℕ, IfOk, IfSome, List, None, OnOk, codes};
 ghost use Rattle.std.specs.Io.KnownBytes.{Appends};
 ghost use Rattle.command_trace.specs.Channels.{FollowsAll};
-ghost use Rattle.report_fields.specs.Fields.{fields_in, tells};
+ghost use Rattle.command_trace.specs.Sources.{bytes_of};
+ghost use Rattle.report_fields.specs.Fields.{tells};
 ghost use Rattle.report_fields.specs.Parts.{IsTold, data_of_told, text_of_told};
-ghost use Rattle.report_json.specs.Checked.{TellsBelow};
-ghost use Rattle.report_json.specs.Verdicts.{fault_fields, fault_in, first_of, lawful_fields, lawful_in, tally_fields};
+ghost use Rattle.report_json.specs.Checked.{TellsAllFaults, TellsEachTally, TellsVerdicts};
+ghost use Rattle.report_json.specs.Verdicts.{fault_fields, fault_in, first_of, lawful_fields, lawful_in, tally_fields, tally_in};
 
 use crate::commands::tell_numbered;
 use command_trace::{BrokenRule, Diagnosis, Form, Source, TraceCheck, TraceFault};
@@ -128,7 +129,7 @@ pub fn write_tally<W: Write>(
     writer: &mut W,
 ) -> Result<(), TraceFault>
     ensures { OnOk result (Appends (W.contents writer.old) (W.contents writer.new)
-        (fields_in is_json (codes "faults") (tally_fields channel tally.now why.now))) }
+        (tally_in is_json channel tally.now why.now)) }
 {
     let told = tell_tally(alloc, channel, tally, why)?;
     write_of_trace(alloc, &told, is_json, writer)
@@ -168,7 +169,7 @@ pub fn write_verdicts<R: Files + AllocGlobal, W: Write>(
     writer: &mut W,
 ) -> Result<(), TraceFault>
     ensures { FollowsAll rules.now check.now → OnOk result ((text : List ℕ)
-        × TellsBelow rules.now check.now is_json rules.now.geometry.channels text
+        × TellsVerdicts rules.now form (bytes_of source.now) check.now is_json text
         × Appends (W.contents writer.old) (W.contents writer.new) text) }
 {
     for channel in 0..rules.geometry.channels {
@@ -188,15 +189,19 @@ pub fn write_tallies<R: Files + AllocGlobal, W: Write>(
     check: &TraceCheck,
     is_json: bool,
     writer: &mut W,
-) -> Result<(), TraceFault> {
+) -> Result<(), TraceFault>
+    ensures { FollowsAll rules.now check.now → OnOk result ((text : List ℕ)
+        × TellsAllFaults rules.now form (bytes_of source.now) check.now is_json text
+        × Appends (W.contents writer.old) (W.contents writer.new) text) }
+{
     let alloc = rt.alloc();
     for channel in 0..rules.geometry.channels {
         if check.is_lawful(rules, channel) {
             write_lawful(alloc, channel, check.count(channel), is_json, writer)?;
-            continue;
+        } else {
+            let tallies = source.tallies(rt, form, rules, channel)?;
+            write_channel(alloc, channel, &tallies, is_json, writer)?;
         }
-        let tallies = source.tallies(rt, form, rules, channel)?;
-        write_channel(alloc, channel, &tallies, is_json, writer)?;
     }
     Ok(())
 }
@@ -208,7 +213,10 @@ fn write_channel<W: Write>(
     tallies: &[BrokenRule],
     is_json: bool,
     writer: &mut W,
-) -> Result<(), TraceFault> {
+) -> Result<(), TraceFault>
+    ensures { OnOk result ((text : List ℕ) × TellsEachTally is_json channel tallies.now text
+        × Appends (W.contents writer.old) (W.contents writer.new) text) }
+{
     for tally in tallies {
         let why = tally.first.reason.to_string(alloc)?;
         write_tally(alloc, channel, tally, &why, is_json, writer)?;

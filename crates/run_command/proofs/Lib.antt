@@ -3,3 +3,4 @@ mod Stores
 pub mod Steps
 pub mod Written
 mod Growing
+mod Bad

@@ -1,5 +1,5 @@
 -- A run on the device of a store, told of the store.
-use Rattle.std.proofs.Common.{◌≡◌, ℕ, List, Option, Result, Ok, Err, IfOk, OnOk, ap, subst, sym, ◌∙◌}
+use Rattle.std.proofs.Common.{◌≡◌, inl, inr, ℕ, List, Option, Result, Ok, Err, IfErr, IfOk, OnOk, ap, subst, sym, ◌∙◌}
 use Rattle.save_device.specs.Memory.{state_of}
 use Rattle.save_device.specs.declared.memory.MemoryDevice.{MemoryDevice}
 use Rattle.channel_port.specs.declared.port.ChannelPort.{Ghosts}
@@ -13,7 +13,9 @@ use Rattle.script_runner.specs.Ended.{Kept}
 use Rattle.script_runner.specs.Runs.{IsKeptRunOn}
 use Rattle.script_runner.specs.Story.{AreAllAnswered}
 use Rattle.store_file.specs.Stores.{device_in}
-use Rattle.run_command.specs.Stored.{RunsOnStore, RunsScriptOn, size_for}
+use Rattle.run_command.specs.Stored.{IsSpared, RunsOnStore, RunsScriptOn, size_for}
+use Rattle.run_command.specs.declared.stored.StoredFault.{StoredFault}
+use Rattle.run_command.specs.declared.stored.StoredFault.TheVariants as fault
 use Rattle.run_command.specs.Whole.{RunsWhole}
 
 module _ {K A : Type 0} (L : Ghosts K) (W : wires.Ghosts A K) (Wired : A → Type 0) (profile : Profile) (text : List ℕ) (kept : Option Kept) (device : MemoryDevice) where
@@ -34,6 +36,18 @@ module _ {K A : Type 0} (L : Ghosts K) (W : wires.Ghosts A K) (Wired : A → Typ
   pub ran_whole : (bytes : List ℕ) (before mid after : List Answer) → after ≡ mid → RunsScriptOn L W Wired profile bytes text before mid kept device → RunsWhole profile text before after
   ran_whole bytes before mid after same ran =
       (ran.lines, ran.script, subst (λ (answers : List Answer). AreAllAnswered (lines_of profile.checked.geometry) ran.lines before answers) (sym same) ran.runs.run.done.all)
+
+-- a store that stays is spared, whatever the fault
+pub stays : {A : Type 0} (result : Result A StoredFault) (same replaced : Type 0) → same → IfErr result (λ why. IsSpared why same replaced)
+stays (Ok value) same replaced is = tt
+stays (Err (fault.Script bad)) same replaced is = is
+stays (Err (fault.Store bad)) same replaced is = inl is
+
+-- it is spared by what follows from both
+pub spared_so : (why : StoredFault) (same replaced stays runs : Type 0) → (same → stays) → (replaced → runs) → IsSpared why same replaced → IsSpared why stays runs
+spared_so (fault.Script bad) same replaced stays runs first other is = first is
+spared_so (fault.Store bad) same replaced stays runs first other (inl is) = inl (first is)
+spared_so (fault.Store bad) same replaced stays runs first other (inr is) = inr (other is)
 
 -- what is so is so where a call came to an end
 pub on_ok : {A E P : Type 0} (result : Result A E) → P → OnOk result P

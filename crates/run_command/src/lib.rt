@@ -5,6 +5,7 @@ mod answered;
 mod lives;
 mod maps;
 mod printer;
+mod refused;
 mod requests;
 mod script;
 mod statistics;
@@ -12,5 +13,6 @@ mod stored;
 
 pub use maps::{report_on_maps, run_on_maps};
 pub use printer::AnswerPrinter;
-pub use script::{RunWords, StoreWord, run_named, why_no_store};
+pub use refused::why_no_store;
+pub use script::{RunWords, StoreWord, run_named};
 pub use stored::{StoredFault, report_on_bytes, run_on_store};

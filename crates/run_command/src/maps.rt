@@ -1,10 +1,11 @@
 // Scripts over closures of both ready-made maps.
-ghost use Rattle.std.specs.Prelude.{◌≡◌, ◌<◌, IfSome, OnOk};
+ghost use Rattle.std.specs.Prelude.{◌≡◌, ◌<◌, IfErr, IfSome, OnOk};
 ghost use Rattle.ddr4_timing.specs.Limits.{lines_of};
 ghost use Rattle.ddr4_timing.specs.Places.{LiesIn};
 ghost use Rattle.interleave_map.specs.Ready.{place_by};
 ghost use Rattle.run_command.specs.Whole.{RunsWhole};
 ghost use Rattle.script_runner.specs.Ended.{nothing};
+ghost use Rattle.script_runner.specs.Scripts.{IsBadText};
 ghost use Rattle.script_runner.specs.Story.{GoesOn};
 
 use crate::printer::AnswerPrinter;
@@ -49,6 +50,7 @@ pub fn report_on_maps<R: Report>(
     ensures whole { OnOk result (RunsWhole profile.now script.now
         (R.answers report.old) (R.answers report.new)) }
     ensures continued { OnOk result (GoesOn R.continues report.old report.new) }
+    ensures bad { IfErr result (IsBadText profile.now.checked.geometry script.now) }
 {
     let lines = read_script(alloc, script, &profile.checked.geometry)?;
     let ways = |ready: ReadyMap| {

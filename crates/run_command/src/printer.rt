@@ -1,6 +1,7 @@
 // Answers, each written as a line.
 ghost use Rattle.std.specs.Prelude.{◌≡◌, ◌∷◌, ◌++◌, [], IfErr, IfSome, OnOk};
 ghost use Rattle.std.specs.Io.KnownBytes.{Appends};
+ghost use Rattle.nv_script.specs.declared.reading.ScriptFault.TheVariants.{Writer};
 ghost use Rattle.run_command.specs.Forms.{WritesMore, line_in};
 ghost use Rattle.script_runner.specs.Story.{GivesOut, GoesOn};
 
@@ -74,6 +75,7 @@ impl<'w, W: io::Write> AnswerPrinter<'w, W> {
             ≡ ⟦<AnswerPrinter<'w, W> as Report>⟧.answers self.old }
         ensures continued { GoesOn ⟦<AnswerPrinter<'w, W> as Report>⟧.continues
             self.old self.new }
+        ensures fault { IfErr result (λ fault. fault ≡ Writer) }
     {
         match self.writer.flush() {
             Ok(()) => Ok(()),

@@ -1,11 +1,12 @@
 // Scripts on a store, whose device they begin with and leave there.
-ghost use Rattle.std.specs.Prelude.{◌≡◌, IfOk, IfSome, OnOk, length};
+ghost use Rattle.std.specs.Prelude.{◌≡◌, IfErr, IfOk, IfSome, OnOk, length};
 ghost use Rattle.save_device.specs.Memory.{state_of};
 ghost use Rattle.script_runner.specs.Ended.{nothing};
+ghost use Rattle.script_runner.specs.Scripts.{IsBadText};
 ghost use Rattle.script_runner.specs.Story.{GoesOn};
 ghost use Rattle.script_runner.specs.Wiring.{IsMapOf, IsWiredFor};
 ghost use Rattle.store_file.specs.Stores.{IfHas, device_in};
-ghost use Rattle.run_command.specs.Stored.{RunsOnStore, RunsScriptOn, size_for};
+ghost use Rattle.run_command.specs.Stored.{IfHad, IsSpared, RunsOnStore, RunsScriptOn, size_for};
 ghost use Rattle.run_command.specs.Whole.{RunsWhole};
 
 use crate::printer::AnswerPrinter;
@@ -78,6 +79,7 @@ pub fn report_on_bytes<'m, M: LineMap, R: Report>(
         (IsWiredFor lines_map.now xor_map.now profile.now) profile.now
         bytes.items script.now (R.answers report.old) (R.answers report.new) book.new device) }
     ensures continued { OnOk result (GoesOn R.continues report.old report.new) }
+    ensures bad { IfErr result (IsBadText profile.now.checked.geometry script.now) }
 {
     let lines = read_script(alloc, script, &profile.checked.geometry)?;
     let device = MemoryDevice::new(alloc, bytes)?;
@@ -110,6 +112,7 @@ fn begin<S: Store>(alloc: Global, size: usize, store: &mut S) -> Result<Begun, S
     ensures size { IfOk result (λ begun. length begun.bytes.items ≡ size) }
     ensures is { IfOk result (λ begun.
         IfHas (λ kept. begun.bytes.items ≡ device_in size kept) (S.kept store.old)) }
+    ensures same { S.kept store.new ≡ S.kept store.old }
 {
     let bytes = store.load(alloc, size)?;
     let form = Form::of(bytes.len(), size);
@@ -127,20 +130,25 @@ fn leave<S: Store, R: Files + AllocGlobal>(
     form: Form,
     store: &mut S,
 ) -> Result<(), StoredFault>
-    ensures { OnOk result
+    ensures left { OnOk result
         (IfHas (λ kept. device_in size kept ≡ (state_of device).bytes) (S.kept store.new)) }
+    ensures spared { IfErr result (λ fault. IsSpared fault (S.kept store.new ≡ S.kept store.old)
+        (IfHas (λ kept. device_in size kept ≡ (state_of device).bytes) (S.kept store.new))) }
 {
     let device = bytes_of_device(rt.alloc(), device)?;
     if device.len() != size {
         return Err(StoredFault::from(io::Error::from(ErrorKind::InvalidData)));
     }
     let bytes = store_bytes(rt.alloc(), &device, form)?;
-    store.replace(rt, &bytes)?;
-    Ok(())
+    match store.replace(rt, &bytes) {
+        Ok(()) => Ok(()),
+        Err(error) => Err(StoredFault::Store(OpenFault::Io(error))),
+    }
 }
 
 /// Runs a script on the device that a store has, with the answers to a printer. Once they are written out, the store has the device as the
-/// script left it, and a new book the commands of the script's lives. Where the run comes to no end, the store stays as it was.
+/// script left it, and a new book the commands of the script's lives. Where the run comes to no end, the store stays as it was; where
+/// only its replacing fails, it may have been replaced.
 pub fn run_on_store<'m, 'w, M: LineMap, S: Store, R: Files + AllocGlobal, W: Write>(
     rt: &R,
     profile: &Profile,
@@ -159,13 +167,19 @@ pub fn run_on_store<'m, 'w, M: LineMap, S: Store, R: Files + AllocGlobal, W: Wri
         (⟦<AnswerPrinter<'w, W> as Report>⟧.answers printer.new)) }
     ensures continued { OnOk result (GoesOn ⟦<AnswerPrinter<'w, W> as Report>⟧.continues
         printer.old printer.new) }
-    ensures stored { OnOk result (IfHas (λ old. IfHas
-        (RunsOnStore ⟦<Ddr4Port<'m, M> as ChannelPort>⟧
+    ensures stored { OnOk result (IfHad (RunsOnStore ⟦<Ddr4Port<'m, M> as ChannelPort>⟧
         ⟦<Wiring<'m, M> as Wires<Ddr4Port<'m, M>>>⟧
         (IsWiredFor lines_map.now xor_map.now profile.now) profile.now script.now
         (⟦<AnswerPrinter<'w, W> as Report>⟧.answers printer.old)
-        (⟦<AnswerPrinter<'w, W> as Report>⟧.answers printer.new) book.new old)
-        (S.kept store.new)) (S.kept store.old)) }
+        (⟦<AnswerPrinter<'w, W> as Report>⟧.answers printer.new) book.new)
+        (S.kept store.old) (S.kept store.new)) }
+    ensures spared { IfErr result (λ fault. IsSpared fault (S.kept store.new ≡ S.kept store.old)
+        (IfHad (RunsOnStore ⟦<Ddr4Port<'m, M> as ChannelPort>⟧
+        ⟦<Wiring<'m, M> as Wires<Ddr4Port<'m, M>>>⟧
+        (IsWiredFor lines_map.now xor_map.now profile.now) profile.now script.now
+        (⟦<AnswerPrinter<'w, W> as Report>⟧.answers printer.old)
+        (⟦<AnswerPrinter<'w, W> as Report>⟧.answers printer.new) book.new)
+        (S.kept store.old) (S.kept store.new))) }
 {
     let alloc = rt.alloc();
     let size = device_size(line_count(&profile.checked) as usize);

@@ -14,7 +14,7 @@ use Rattle.schedule_drawing.specs.declared.shapes.Shape.{Shape}
 use Rattle.schedule_drawing.specs.Drawing.{shape_to}
 use Rattle.schedule_drawing.specs.Events.{entry_told, event_place, events_told}
 use Rattle.schedule_drawing.specs.Lives.{EndBy}
-use Rattle.schedule_drawing.specs.Schedules.{AddsLife}
+use Rattle.schedule_drawing.specs.Schedules.{AddsLife, IsShownWhole, ShowsSame}
 use Rattle.schedule_drawing.specs.Telling.{BeginsBehind, IsOneLife, StartsLife, TellsAll, ToldLife, begins_life, life_drawn, life_events}
 
 -- the schedule tells the answers that stand before those that are left
@@ -24,8 +24,9 @@ TellsBefore t answers left schedule =
     × (done ++ left ≡ answers) × ((tells.lives ≡ []) ⊎ StartsLife left)
 
 pub tells-none : (t : Timing) (answers : List Answer) (schedule : Schedule)
-    → schedule.shapes.items ≡ [] → schedule.begins.items ≡ [] → schedule.events.items ≡ [] → TellsBefore t answers answers schedule
-tells-none t answers schedule shapes begins events = (
+    → schedule.shapes.items ≡ [] → schedule.begins.items ≡ [] → schedule.events.items ≡ [] → schedule.flaws.items ≡ []
+    → IsShownWhole schedule → TellsBefore t answers answers schedule
+tells-none t answers schedule shapes begins events flaws whole = (
   [],
   record {
     lives = [];
@@ -37,6 +38,8 @@ tells-none t answers schedule shapes begins events = (
     begins = begins;
     shapes = shapes;
     events = ap (λ l. map event_place l) events;
+    flaws = flaws;
+    whole = whole;
   },
   refl,
   inl refl,
@@ -107,9 +110,10 @@ told-more : (t : Timing) (done : List Answer) (old new : Schedule) (next : ToldL
     → ((tells.lives ≡ []) ⊎ StartsLife next.answers) → IsOneLife next.answers
     → AddsLife t next.begin (filter_map (entry_told next.begin) next.answers) old new
     → map event_place new.events.items ≡ map event_place old.events.items ++ life_events next
+    → new.flaws ≡ old.flaws → ShowsSame old new
     → (old.begins.items ≡ [] → next.begin ≡ 0) → (old.begins.items ≢ [] → EndBy next.begin old.shapes.items)
     → TellsAll t (done ++ next.answers) new
-told-more t done old new next tells first one adds events zero_at behind = record {
+told-more t done old new next tells first one adds events flaws shown zero_at behind = record {
   lives = tells.lives ++ next ∷ [];
   answers_are =
       ap (λ l. l ++ next.answers) tells.answers_are ∙ one-more (λ (life : ToldLife). life.answers) tells.lives next;
@@ -126,6 +130,8 @@ told-more t done old new next tells first one adds events zero_at behind = recor
       ∙ sym (map-append (λ (life : ToldLife). life.begin) tells.lives (next ∷ []));
   shapes = adds.shapes ∙ ap (λ l. l ++ life_drawn t next) tells.shapes ∙ one-more (life_drawn t) tells.lives next;
   events = events ∙ ap (λ l. l ++ life_events next) tells.events ∙ one-more life_events tells.lives next;
+  flaws = ap (λ l. l.items) flaws ∙ tells.flaws;
+  whole = record { first = shown.first ∙ tells.whole.first; last = shown.last ∙ tells.whole.last };
 }
 
 -- the life and the rest are the first answers of those that are left, and those behind them
@@ -134,13 +140,14 @@ pub tells-more : (t : Timing) (answers left life rest : List Answer) (n begin : 
     → IsOneLife (take n left) → StartsLife (drop n left)
     → AddsLife t begin (filter_map (entry_told begin) life) old new
     → map event_place new.events.items ≡ map event_place old.events.items ++ events_told begin begin life
+    → new.flaws ≡ old.flaws → ShowsSame old new
     → (old.begins.items ≡ [] → begin ≡ 0) → (old.begins.items ≢ [] → EndBy begin old.shapes.items)
     → TellsBefore t answers rest new
-tells-more t answers left life rest n begin old new (done, tells, whole, first) some life_is rest_is one next adds events zero_at behind =
+tells-more t answers left life rest n begin old new (done, tells, whole, first) some life_is rest_is one next adds events flaws shown zero_at behind =
     let joined : life ++ rest ≡ left = rw life_is (rw rest_is (take-append-drop n left)) in (
       done ++ life,
       told-more t done old new (record { begin = begin; answers = life }) tells (first-front tells.lives n left life some life_is first)
-          (rw life_is one) adds events zero_at behind,
+          (rw life_is one) adds events flaws shown zero_at behind,
       append_assoc done life rest ∙ ap (λ l. done ++ l) joined ∙ whole,
       inr (rw rest_is next),
     )

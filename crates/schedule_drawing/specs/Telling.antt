@@ -10,6 +10,7 @@ use Rattle.schedule_drawing.specs.declared.shapes.Shape.{Shape}
 use Rattle.schedule_drawing.specs.Drawing.{drawn, later}
 use Rattle.schedule_drawing.specs.Events.{EventPlace, entry_told, event_place, events_told}
 use Rattle.schedule_drawing.specs.Lives.{EndBy, latest_clock}
+use Rattle.schedule_drawing.specs.Schedules.{IsShownWhole}
 
 -- whether a life begins with an answer
 abbrev pub begins_life : Answer → Bool
@@ -48,6 +49,7 @@ BeginsBehind t life next = EndBy next.begin (life_drawn t life)
 
 -- Of answers each life is drawn, from clock 0 on, each behind all that is drawn of those before it: each command that they
 -- tell, and what is drawn from it on; and its events in their turn. What stands before the first formatting is drawn as a life too.
+-- None is told to break a rule.
 pub record TellsAll (t : Timing) (answers : List Answer) (schedule : Schedule) : Type 0 where
   pub lives : List ToldLife
   pub answers_are : answers ≡ flat_map (λ life. life.answers) lives
@@ -58,3 +60,5 @@ pub record TellsAll (t : Timing) (answers : List Answer) (schedule : Schedule) :
   pub begins : schedule.begins.items ≡ map (λ life. life.begin) lives
   pub shapes : schedule.shapes.items ≡ flat_map (life_drawn t) lives
   pub events : map event_place schedule.events.items ≡ flat_map life_events lives
+  pub flaws : schedule.flaws.items ≡ []
+  pub whole : IsShownWhole schedule

@@ -1,5 +1,6 @@
 // The commands of a trace that can be drawn.
-ghost use Rattle.std.specs.Prelude.{◌≡◌, ◌↔◌, [], false, IfOk, IsTrue};
+ghost use Rattle.std.specs.Prelude.{◌≡◌, ◌↔◌, ℕ, List, [], Option, false, IfOk, IsTrue};
+ghost use Rattle.command_trace.specs.Traces.{AreCommandsOf, HasRead};
 ghost use Rattle.ddr4_timing.specs.Lawful.{IsInGeometry};
 ghost use Rattle.schedule_drawing.specs.Entries.{AreInTime, AreFoundIn, has_closing};
 
@@ -49,6 +50,8 @@ pub fn read_found<R: Read + Drop>(
 ) -> Result<Vec<Located>, TraceFault>
     requires { reader.old.given.items ≡ [] }
     ensures whole { IfOk result (λ found. found.items ≡ reader.new.given.items) }
+    ensures reads { (bytes : Option (List ℕ)) → HasRead R.remaining bytes reader.old [] →
+        IfOk result (λ found. AreCommandsOf reader.old.form bytes found.items) }
     ensures lie { IfOk result (λ found. AreFoundIn g.now found.items) }
     ensures early { IfOk result (λ found. AreInTime found.items) }
 {
@@ -56,7 +59,7 @@ pub fn read_found<R: Read + Drop>(
     let mut rising = Rising { least: [0; 8] };
     for _ in 0..u64::MAX {
         let Some(found) = reader.next()? else {
-            break;
+            return Ok(commands);
         };
         if !lies_in(g, &found.entry.command.cmd) {
             return Err(refused(found.line, NoCommand::Place));
@@ -66,7 +69,8 @@ pub fn read_found<R: Read + Drop>(
         }
         commands.extend_from_slice(&[found])?;
     }
-    Ok(commands)
+    // more commands than can be counted
+    Err(TraceFault::Reader)
 }
 
 /// Is a command of these with auto-precharge?

@@ -71,14 +71,15 @@ fn end_of(end: u64, shapes: &[Shape]) -> u64
 }
 
 impl Schedule {
-    ghost use Rattle.schedule_drawing.specs.Schedules.{AddsLife};
+    ghost use Rattle.schedule_drawing.specs.Schedules.{AddsLife, IsShownWhole, ShowsSame};
 
-    /// With nothing in it.
+    /// With nothing in it, and every clock shown.
     pub fn new(alloc: Global) -> Schedule
         ensures shapes { result.shapes.items ≡ [] }
         ensures begins { result.begins.items ≡ [] }
         ensures events { result.events.items ≡ [] }
         ensures flaws { result.flaws.items ≡ [] }
+        ensures whole { IsShownWhole result }
     {
         Schedule {
             shapes: Vec::new(alloc),
@@ -115,6 +116,7 @@ impl Schedule {
         ensures life { OnOk result (AddsLife t.now begin entries.now self.old self.new) }
         ensures events { self.new.events ≡ self.old.events }
         ensures flaws { self.new.flaws ≡ self.old.flaws }
+        ensures shown { ShowsSame self.old self.new }
     {
         let open_until = last_of(begin, entries).saturating_add(TAIL);
         let shapes = shapes_of(alloc, t, entries, open_until)?;
@@ -140,6 +142,9 @@ impl Schedule {
             ≡ filter (λ flaw. is_within first last flaw.clock) self.old.flaws.items) }
         ensures events { OnOk result (self.new.events.items
             ≡ filter (λ event. is_within first last event.clock) self.old.events.items) }
+        ensures begins { self.new.begins ≡ self.old.begins }
+        ensures first { OnOk result (self.new.first ≡ first) }
+        ensures last { OnOk result (self.new.last ≡ last) }
     {
         let shapes = parts_of(alloc, first, last, &self.shapes)?;
         self.end = end_of(self.end, &shapes);

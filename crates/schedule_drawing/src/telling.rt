@@ -2,7 +2,7 @@
 ghost use Rattle.std.specs.Prelude.{◌≡◌, ◌<◌, ◌≤◌, ◌++◌, false, length, map, take, drop, filter_map, All, IfOk, OnOk};
 ghost use Rattle.std.specs.Option.{option_map};
 ghost use Rattle.schedule_drawing.specs.Events.{clock_behind, event_place, events_told, kind_of, mode_of, places_told};
-ghost use Rattle.schedule_drawing.specs.Schedules.{AddsLife};
+ghost use Rattle.schedule_drawing.specs.Schedules.{AddsLife, ShowsSame};
 ghost use Rattle.schedule_drawing.specs.Telling.{IsOneLife, StartsLife, TellsAll, begins_life};
 
 use crate::schedule::{EventKind, Schedule, ScheduleEvent};
@@ -168,6 +168,8 @@ fn tell_life(
         schedule.old schedule.new) }
     ensures events { OnOk result (map event_place schedule.new.events.items
         ≡ map event_place schedule.old.events.items ++ events_told begin begin answers.now) }
+    ensures flaws { schedule.new.flaws ≡ schedule.old.flaws }
+    ensures shown { ShowsSame schedule.old schedule.new }
 {
     let entries = entries_told(alloc, begin, answers)?;
     schedule.add(alloc, t, begin, &entries)?;

@@ -1,5 +1,6 @@
 // The schedule of a trace.
-ghost use Rattle.std.specs.Prelude.{◌≡◌, [], IfOk};
+ghost use Rattle.std.specs.Prelude.{◌≡◌, ℕ, List, [], Option, IfOk};
+ghost use Rattle.command_trace.specs.Traces.{AreCommandsOf, HasRead};
 ghost use Rattle.schedule_drawing.specs.Traces.{DrawsTrace};
 
 use crate::entries::{has_closing, read_found};
@@ -19,7 +20,9 @@ pub fn trace_schedule<R: Read + Drop>(
     reader: &mut TraceReader<R>,
 ) -> Result<Schedule, TraceFault>
     requires { reader.old.given.items ≡ [] }
-    ensures { IfOk result (λ schedule. DrawsTrace rules.now reader.new.given.items schedule) }
+    ensures draws { IfOk result (DrawsTrace rules.now reader.new.given.items) }
+    ensures reads { (bytes : Option (List ℕ)) → HasRead R.remaining bytes reader.old [] →
+        IfOk result (λ _. AreCommandsOf reader.old.form bytes reader.new.given.items) }
 {
     let found = read_found(alloc, reader, &rules.geometry)?;
     let entries = entries_drawn(alloc, rules, &found)?;
