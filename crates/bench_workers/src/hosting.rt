@@ -13,7 +13,7 @@ use std::sync::Wait;
 use std::thread;
 use std::thread::Threads;
 use std::time::Clock;
-use worker_loops::give_way;
+use worker_turns::give_way;
 
 /// How often a host tries its calls, all in all: where no thread is to be had, what it waits for doesn't come.
 const TRIES: u64 = 1 << 28;

@@ -7,8 +7,8 @@ use Rattle.channel_set.specs.declared.set.ChannelSet.{ChannelSet}
 use Rattle.module_core.specs.Draining.{AreDrainedFrom, WhereDrained}
 use Rattle.nv_machine.specs.Losses.{LoseStep}
 use Rattle.nv_machine.specs.State.{Machine, Setup, World}
-use Rattle.worker_gate.specs.Waiting.{AreAwaited}
-use Rattle.worker_gate.specs.declared.Gate.{Ghosts as GateGhosts}
+use Rattle.worker_turns.specs.Waiting.{AreAwaited}
+use Rattle.worker_turns.specs.declared.Gate.{Ghosts as GateGhosts}
 use Rattle.board_desk.specs.Losing.{DrainsBehind}
 
 -- the life stays as it was

@@ -13,8 +13,8 @@ use Rattle.slot_store.specs.declared.saving.SaveRun.{SaveRun}
 use Rattle.channel_locks.specs.declared.parts_name.PartsName.{Ghosts as PartsGhosts}
 use Rattle.channel_set.specs.declared.terms.PortTerms.{PortTerms}
 use Rattle.channel_port.specs.Shape.{IsShape}
-use Rattle.module_core.specs.Device.{Holds, HoldsWhile}
-use Rattle.module_core.specs.declared.saves.Saves.{Saves}
+use Rattle.module_saves.specs.Device.{Holds, HoldsWhile}
+use Rattle.module_saves.specs.declared.saves.Saves.{Saves}
 use Rattle.nv_machine.specs.declared.events.Event.{Event}
 use Rattle.nv_machine.specs.declared.events.Reply.{Reply}
 use Rattle.nv_machine.specs.Guard.{IsGuarded}

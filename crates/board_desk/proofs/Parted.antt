@@ -30,7 +30,7 @@ use Rattle.line_memory.specs.History.{Recorded, recorded}
 use Rattle.line_memory.specs.Memory.{IsMemory}
 use Rattle.line_memory.specs.Parts.{written_on}
 use Rattle.line_memory.specs.declared.Write.{Write}
-use Rattle.module_core.specs.Device.{Holds}
+use Rattle.module_saves.specs.Device.{Holds}
 use Rattle.module_core.specs.Fronts.{setup_in}
 use Rattle.module_core.specs.Losing.{LosesBy}
 use Rattle.module_core.specs.Stands.{ModuleStands, setup_of}

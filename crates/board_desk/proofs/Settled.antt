@@ -6,12 +6,12 @@ use Rattle.channel_locks.specs.declared.parts_name.PartsName.{Ghosts as PartsGho
 use Rattle.channel_log.specs.Between.{CameOf}
 use Rattle.channel_log.specs.Log.{IsLogOf, LogNote, Told, credits_of, log_tells, note_of}
 use Rattle.energy_budget.specs.declared.costs.Costs.{Costs}
-use Rattle.module_core.specs.Device.{Holds}
+use Rattle.module_saves.specs.Device.{Holds}
 use Rattle.module_core.specs.Fronts.{setup_in}
 use Rattle.module_core.specs.declared.front.Front.{Front}
 use Rattle.channel_log.specs.declared.entry.LogEntry.{LogEntry}
 use Rattle.channel_port.specs.Waits.{Waits}
-use Rattle.module_core.proofs.StoreSteps.{stop_now}
+use Rattle.module_saves.proofs.StoreSteps.{stop_now}
 use Rattle.nv_machine.proofs.JoinedRuns.{rests_here}
 use Rattle.nv_machine.specs.declared.events.Event.{Event}
 use Rattle.nv_machine.specs.State.{Machine, Setup, World}

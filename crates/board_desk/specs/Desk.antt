@@ -11,7 +11,7 @@ use Rattle.channel_set.specs.declared.terms.PortTerms.{PortTerms}
 use Rattle.channel_locks.specs.declared.parts_name.PartsName.{Ghosts as PartsGhosts}
 use Rattle.nv_machine.specs.Guard.{IsGuarded}
 use Rattle.nv_machine.specs.State.{Machine, Setup, World, base_of_life, hold_of, newest_of, stored_base, stored_writes}
-use Rattle.module_core.specs.Device.{Holds}
+use Rattle.module_saves.specs.Device.{Holds}
 use Rattle.module_core.specs.Fronts.{setup_in}
 use Rattle.split_module.specs.declared.front.SplitFront.{SplitFront}
 use Rattle.split_module.specs.Lending.{SplitStands}

@@ -15,7 +15,7 @@ use Rattle.mark_board.specs.SeenMarks.{SeenMarks}
 use Rattle.module_core.specs.Draining.{WhereDrained}
 use Rattle.nv_workers.specs.declared.board_name.BoardName.{Ghosts as BoardGhosts}
 use Rattle.save_device.specs.declared.device.SaveDevice.{Ghosts as DeviceGhosts}
-use Rattle.worker_gate.specs.declared.Gate.{Ghosts as GateGhosts}
+use Rattle.worker_turns.specs.declared.Gate.{Ghosts as GateGhosts}
 use Rattle.board_desk.specs.Asking.{CameBy, pieces_with}
 use Rattle.board_desk.specs.Calling.{Course, loss_course}
 use Rattle.board_desk.specs.Desk.{DeskView}

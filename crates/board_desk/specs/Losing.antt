@@ -14,8 +14,8 @@ use Rattle.nv_machine.specs.Losses.{LoseStep}
 use Rattle.nv_machine.specs.State.{Machine}
 use Rattle.save_device.specs.declared.device.SaveDevice.{Ghosts as DeviceGhosts}
 use Rattle.split_module.specs.Lending.{SplitStands}
-use Rattle.worker_gate.specs.Waiting.{AreAwaited}
-use Rattle.worker_gate.specs.declared.Gate.{Ghosts as GateGhosts}
+use Rattle.worker_turns.specs.Waiting.{AreAwaited}
+use Rattle.worker_turns.specs.declared.Gate.{Ghosts as GateGhosts}
 use Rattle.board_desk.specs.Asking.{pieces_with}
 use Rattle.board_desk.specs.Desk.{DeskStands, DeskView, setup_at, shape_at, world_at}
 use Rattle.board_desk.specs.Loans.{AreRestated}

@@ -20,7 +20,7 @@ use nv_workers::BoardName;
 use save_device::SaveDevice;
 use std::sync::Wait;
 use std::thread::Threads;
-use worker_gate::Gate;
+use worker_turns::Gate;
 
 // A desk that is still apart behind a call, and what the call answered.
 #[derive(Drop)]

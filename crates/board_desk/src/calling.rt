@@ -18,7 +18,7 @@ use nv_machine::StepReply;
 use nv_workers::RecordedModule;
 use save_device::SaveDevice;
 use std::thread::Threads;
-use worker_gate::Gate;
+use worker_turns::Gate;
 
 /// A call of a module with its device, its gauge and its record. It accepts no write, and no channel issues a command.
 pub trait WholeCall<K: ChannelPort, D: SaveDevice, E: Energy> {

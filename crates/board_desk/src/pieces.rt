@@ -18,7 +18,7 @@ use nv_workers::RecordedModule;
 use save_device::SaveDevice;
 use split_module::SplitModule;
 use std::thread::Threads;
-use worker_gate::Gate;
+use worker_turns::Gate;
 
 /// A board's module in pieces, with its device, its gauge and its record.
 #[derive(Drop)]

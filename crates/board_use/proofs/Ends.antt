@@ -18,7 +18,7 @@ use Rattle.nv_workers.specs.Ending.{AreChecked}
 use Rattle.nv_workers.specs.declared.board_name.BoardName.{Ghosts as BoardGhosts}
 use Rattle.nv_workers.specs.declared.host.Receipt.{Receipt}
 use Rattle.nv_workers.specs.declared.recorded_module.RecordedModule.{RecordedModule}
-use Rattle.worker_loops.specs.declared.awaiting.Seen.{Seen}
+use Rattle.worker_turns.specs.declared.awaiting.Seen.{Seen}
 use Rattle.board_desk.specs.Desk.{DeskStands, DeskView, desk_view, setup_at, shape_named}
 use Rattle.split_board.specs.Starting.{LiesBehindLocks}
 use Rattle.board_use.specs.Ends.{EndsLife, answers_of, receipts_of}

@@ -13,7 +13,7 @@ use Rattle.nv_machine.specs.State.{Setup}
 use Rattle.nv_profile.specs.declared.profile.Profile.{Profile}
 use Rattle.nv_workers.specs.declared.host.Receipt.{Receipt}
 use Rattle.nv_workers.specs.declared.recorded_module.RecordedModule.{RecordedModule}
-use Rattle.worker_loops.specs.declared.awaiting.Seen.{Seen}
+use Rattle.worker_turns.specs.declared.awaiting.Seen.{Seen}
 use Rattle.ddr4_boards.specs.Restored.{RecordsRestored}
 use Rattle.ddr4_boards.specs.Setup.{IsSetupOf}
 use Rattle.board_use.specs.Ends.{EndsLife, EndsLifeOn, LeavesBoard, LeavesUnused, answers_of, receipts_of, shape_beside, shape_of_profile}

@@ -15,7 +15,7 @@ use Rattle.nv_machine.specs.State.{Machine, Setup, all_of, base_of_life, start_o
 use Rattle.nv_profile.specs.declared.profile.Profile.{Profile}
 use Rattle.nv_workers.specs.Ending.{AreChecked}
 use Rattle.nv_workers.specs.declared.host.Receipt.{Receipt}
-use Rattle.worker_loops.specs.declared.awaiting.Seen.{Seen}
+use Rattle.worker_turns.specs.declared.awaiting.Seen.{Seen}
 use Rattle.nv_workers.specs.declared.recorded_module.RecordedModule.{RecordedModule}
 use Rattle.channel_port.specs.declared.port.ChannelPort.{Ghosts}
 use Rattle.channel_set.specs.Set.{shape_of}

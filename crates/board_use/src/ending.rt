@@ -1,7 +1,7 @@
 // How a board ends that was used.
 ghost use Rattle.std.specs.Prelude.{◌≡◌, ◌++◌, length, IfOk, List, OnOk};
 ghost use Rattle.nv_workers.specs.declared.host.Receipt.{Receipt};
-ghost use Rattle.worker_loops.specs.declared.awaiting.Seen.{Seen};
+ghost use Rattle.worker_turns.specs.declared.awaiting.Seen.{Seen};
 ghost use Rattle.board_desk.specs.Desk.{shape_named};
 ghost use Rattle.board_use.specs.Ends.{EndsLife, answers_of, receipts_of};
 

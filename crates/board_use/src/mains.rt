@@ -2,7 +2,7 @@
 use std::sync::Wait;
 use std::sync::atomic::{AtomicBool, Ordering};
 use std::time::Clock;
-use worker_loops::give_way;
+use worker_turns::give_way;
 
 /// The mains of a board, which any of its hosts may lose.
 #[derive(Drop)]

@@ -3,7 +3,7 @@ use nv_workers::{Gate, Turn};
 use std::sync::Wait;
 use std::sync::atomic::{AtomicBool, AtomicU64, Ordering};
 use std::time::Clock;
-use worker_loops::give_way;
+use worker_turns::give_way;
 
 /// Whether all threads of a board are there, how many of its hosts are done, and whether all are or a thread was refused. Workers go
 /// between the first and the last.

@@ -15,7 +15,7 @@ use std::sync::Wait;
 use std::thread;
 use std::thread::{JoinHandle, Scope, Threads};
 use std::time::Clock;
-use worker_loops::give_way;
+use worker_turns::give_way;
 
 /// Room for hosts: for their threads, for the hosts when they are done, and for what they came to.
 #[derive(Drop)]

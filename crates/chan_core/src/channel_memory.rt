@@ -86,6 +86,7 @@ impl ChannelMemory {
     {
         self.issued.note(command);
         let Some(index) = index else {
+            self.waiting.follow(&command.cmd);
             return None;
         };
         let request = self.waiting.requests()[index];

@@ -9,12 +9,12 @@ use Rattle.channel_port.specs.declared.answers.Collected.TheVariants.{Data}
 use Rattle.channel_port.specs.declared.answers.Ticket.{Ticket}
 use Rattle.channel_port.specs.declared.port.ChannelPort.{Ghosts}
 use Rattle.channel_part.specs.declared.part.Part.{Part}
-use Rattle.worker_gate.specs.declared.Gate.{Ghosts as GateGhosts}
+use Rattle.worker_turns.specs.declared.Gate.{Ghosts as GateGhosts}
 use Rattle.channel_locks.specs.declared.parts_name.PartsName.{Ghosts as NameGhosts}
 use Rattle.channel_locks.specs.declared.turns.ChannelTurn.{ChannelTurn}
 use Rattle.channel_locks.specs.Alone.{MakesRoomAlone, ServesAlone, WorksAlone, lost_mains_in}
 use Rattle.channel_locks.specs.Slots.{IsPartWhereDue}
-use Rattle.worker_gate.specs.Inside.{AwaitsInside}
+use Rattle.worker_turns.specs.Inside.{AwaitsInside}
 
 -- Bytes that a ticket has are its line's behind so many writes, by what is told of the channel.
 abbrev pub GivesItsLine : List (List ℕ) → Told → Collected → Type 0

@@ -11,7 +11,7 @@ use crate::turns::ChannelTurn;
 use channel_port::{ChannelPort, Collected, Ticket};
 use std::sync::{Mutex, MutexGuard, Wait};
 use std::thread;
-use worker_gate::Gate;
+use worker_turns::Gate;
 
 /// Room for a board's channels, without any.
 #[derive(Drop)]

@@ -1,11 +1,11 @@
 // The turn of a channel's worker.
 ghost use Rattle.std.specs.Prelude.{◌≡◌};
-ghost use Rattle.worker_gate.specs.Inside.{AwaitsInside};
+ghost use Rattle.worker_turns.specs.Inside.{AwaitsInside};
 
 use crate::locked_channel::LockedChannel;
 use crate::parts_name::PartsName;
 use channel_port::{ChannelPort, Done};
-use worker_gate::{Gate, await_inside};
+use worker_turns::{Gate, await_inside};
 
 /// What a turn at a channel came to: the command that it issued, and whether mains were lost.
 #[derive(Clone, Copy, Debug, PartialEq, Eq)]

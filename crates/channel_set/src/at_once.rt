@@ -3,13 +3,13 @@ ghost use Rattle.std.specs.Prelude.{◌≡◌, ◌<◌, ◌≤◌, ℕ, [], All,
 ghost use Rattle.channel_port.specs.declared.stage.Stage.TheVariants.{OnBackup};
 ghost use Rattle.channel_port.specs.Draining.{at_once};
 ghost use Rattle.channel_set.specs.Paid.{AwaitsPaidDrain, DrainsPaid};
-ghost use Rattle.worker_gate.specs.Waiting.{AreAwaited, AwaitsTurn};
+ghost use Rattle.worker_turns.specs.Waiting.{AreAwaited, AwaitsTurn};
 
 use crate::ChannelSet;
 use channel_port::ChannelPort;
 use energy_budget::{Action, Costs, Dark, Energy};
 use std::thread::{Threads, for_each_mut};
-use worker_gate::{Gate, await_turn};
+use worker_turns::{Gate, await_turn};
 
 // Drains a port once the gate lets it go.
 fn drain_port<K: ChannelPort, G: Gate>(port: &mut K, number: usize, costs: &Costs, gate: &G)

@@ -3,14 +3,14 @@ ghost use Rattle.std.specs.Prelude.{◌≡◌, ◌-◌, ◌<◌, ◌≤◌, ℕ,
 ghost use Rattle.std.specs.Thread.{IsSync};
 ghost use Rattle.drain_core.specs.AtOnce.{AreDrained, AreReports, CanAllDrain, CanDrainFrom};
 ghost use Rattle.drain_core.specs.Steps.{drained};
-ghost use Rattle.worker_gate.specs.Waiting.{AreAwaited};
+ghost use Rattle.worker_turns.specs.Waiting.{AreAwaited};
 
 use crate::channel_drain::drain;
 use crate::report::DrainReport;
 use chan_core::Channel;
 use energy_budget::Costs;
 use std::thread::{Threads, join_mut};
-use worker_gate::{Gate, await_turn};
+use worker_turns::{Gate, await_turn};
 
 // The first reports of one, and then those of the other.
 fn joined(

@@ -13,4 +13,4 @@ pub use at_once::drain_all;
 pub use channel_drain::{drain, drain_paying};
 pub use report::DrainReport;
 pub use steps::{StepEnd, close_step, entry_step, self_refresh};
-pub use worker_gate::{Always, Gate, Turn};
+pub use worker_turns::{Always, Gate, Turn};

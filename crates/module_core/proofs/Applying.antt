@@ -22,8 +22,8 @@ use Rattle.nv_machine.specs.Machine.{MachineStep}
 use Rattle.nv_machine.specs.declared.events.Event.TheVariants as events
 use Rattle.nv_machine.specs.declared.events.Reply.TheVariants as replies
 use Rattle.module_core.proofs.Common.{if◌then◌else◌, ℕ, ◌∙◌, ◌≡◌, Assembly, Bool, DeviceState, Event, ForSome, Gauge, Ghosts, HappensAt, Holds, IsAmong, LeavesOnly, Machine, Matches, Module, ModuleStands, None, Option, Outcome, Reply, Setup, Shape, Some, Waits, WaitsFrom, after, all_of, ap, assembly, base_of_life, false, hold_of, inl, inr, lines_of_module, marks, option_map, point_of, read_as, refl, restored, rules, setup_of, shape_of, start_of_life, started, subst, sym, true, view_of, weaker, world_of}
-use Rattle.module_core.proofs.Knowing.{holds_moved}
-use Rattle.module_core.proofs.StoreSteps.{stop_now}
+use Rattle.module_saves.proofs.Knowing.{holds_moved}
+use Rattle.module_saves.proofs.StoreSteps.{stop_now}
 
 -- the command that comes next was issued, where there is one
 pub works_where_due : {K : Type 0} (L : Ghosts K) (channel : ℕ) (result : Option Done) (point : Point L) → NextCommand L point.channels channel (option_map (λ done. done.command) result)

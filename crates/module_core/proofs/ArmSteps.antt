@@ -22,7 +22,7 @@ use Rattle.channel_set.specs.Issuing.{IssuesNone}
 use Rattle.module_core.specs.Stands.{saved_after}
 use Rattle.module_core.proofs.Common.{ℕ, ◌<◌, ◌∙◌, ◌≡◌, ◌≤◌, Assembly, DeviceState, Err, Gauge, GaugeCall, Ghosts, HappensAt, HoldsWhile, IsAmong, IsResting, LeavesOnly, Machine, Matches, Mode, Module, ModuleStands, None, Option, Outcome, ReadsLevel, Result, RunningSave, AreSameSave, SaveRun, Setup, Slot, Some, Store, Waits, World, ap, armed, assembly, false, has_ended, is_armed, is_backed, length, lines_of_module, marks, point_of, rearmed, restored, rules, saves_of, setup_of, subst, sym, true, view_of, weaker, world_of}
 use Rattle.module_core.proofs.Applying.{asked}
-use Rattle.module_core.proofs.StoreSteps.{at_rest}
+use Rattle.module_saves.proofs.StoreSteps.{at_rest}
 
 -- such a refusal comes before the arm byte is written
 pub unmarked : (mode : Mode) (s : SaveState) (r : ArmRefusal) → arm_refusal mode s ≡ Some r → marks (replies.Arm (Err r)) ≡ false

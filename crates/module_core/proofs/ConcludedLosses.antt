@@ -8,7 +8,7 @@ use Rattle.channel_set.specs.Draining.{DrainsEach}
 use Rattle.slot_store.specs.Finishing.{Finish}
 use Rattle.slot_store.specs.declared.source.BrokenOff.{BrokenOff}
 use Rattle.slot_store.specs.declared.source.BrokenOff.TheVariants as broken
-use Rattle.module_core.specs.Closing.{ClosesModule, HasDrained}
+use Rattle.module_core.specs.Drained.{ClosesModule, HasDrained}
 use Rattle.module_core.specs.Covering.{IsCovered}
 use Rattle.module_core.specs.Draining.{AreDrainedFrom}
 use Rattle.module_core.specs.Losing.{AnswersLoss, BeginsLoss, CoversDrains, IsLoss}

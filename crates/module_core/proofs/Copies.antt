@@ -25,11 +25,11 @@ use Rattle.module_core.specs.Issuing.{Issues, IssuesAtLoss}
 use Rattle.module_core.specs.ModuleLives.{HasAnswered, LifeSoFar}
 use Rattle.module_core.specs.Opening.{opened_with}
 use Rattle.module_core.specs.Parts.{FitTogether}
-use Rattle.module_core.specs.Saving.{IsOfLines}
-use Rattle.module_core.specs.Stands.{HappensNextAt, IsCarried, Point, RestsAt, RunAt, RunsTo}
+use Rattle.module_saves.specs.Saving.{IsOfLines}
+use Rattle.module_core.specs.Stands.{HappensNextAt, IsCarried, Point, RestsAt, RunAt}
 use Rattle.module_core.specs.declared.front.Front.{Front}
 use Rattle.slot_store.specs.declared.head.Head.{Head}
-use Rattle.module_core.proofs.Common.{[], ℕ, ◌∙◌, ◌∷◌, ◌≡◌, ◌≢◌, Assembly, ChannelsView, DeviceState, Event, Gauge, Ghosts, Holds, Image, IsMemory, List, Machine, Matches, Module, ModuleStands, Option, Reply, SaveRun, Setup, Shape, ap, assembly, base_of_life, false, has_ended, lines_of_module, memory_of, point_of, present, refl, restored, setup_of, shape_of, start_of_life, subst, sym, view_of}
+use Rattle.module_core.proofs.Common.{[], ℕ, ◌∙◌, ◌∷◌, ◌≡◌, Assembly, ChannelsView, DeviceState, Event, Gauge, Ghosts, Holds, Image, IsMemory, List, Machine, Module, ModuleStands, Option, Reply, Setup, Shape, ap, assembly, base_of_life, lines_of_module, memory_of, point_of, refl, restored, setup_of, shape_of, start_of_life, subst, sym, view_of}
 
 module _ {K : Type 0} (L : Ghosts K) where
   -- what contracts see of the channels

@@ -8,10 +8,11 @@ use Rattle.line_memory.specs.declared.Write.{Write}
 use Rattle.slot_store.specs.Finishing.{Finish}
 use Rattle.slot_store.specs.declared.source.BrokenOff.TheVariants as broken
 use Rattle.module_core.specs.declared.front.Front.{Front}
-use Rattle.module_core.specs.Closing.{ClosesChannels, ClosesSave, ClosingAt, HasDrained, SavesAt, SavesClosing, closing_at}
+use Rattle.module_saves.specs.Closing.{ClosesSave, SavesAt, SavesClosing}
+use Rattle.module_core.specs.Drained.{ClosesChannels, ClosingAt, HasDrained, closing_at}
 use Rattle.module_core.proofs.Common.{ℕ, ◌+◌, ◌∙◌, ◌≡◌, false, Assembly, ChannelsView, DeviceState, Err, Gauge, Ghosts, Holds, Image, IsReadyToClose, IsResting, List, Newest, None, Ok, Option, SaveRun, Saves, Shape, Some, Store, after, ap, begun_save, inl, inr, length, lines_of_module, refl, saves_at, shape_of, subst, sym, view_of}
 use Rattle.module_core.proofs.Emptied.{all_wait, none_waits}
-use Rattle.module_core.proofs.StoreSteps.{at_rest}
+use Rattle.module_saves.proofs.StoreSteps.{at_rest}
 
 -- no payment was refused
 pub all_paid : (drained : Paid) → is_err drained ≡ false → drained ≡ Ok tt

@@ -1,16 +1,8 @@
 pub mod Common
 pub mod Waits
-pub mod StoreSteps
-pub mod Knowing
 pub mod Applying
-pub mod RunningSaves
-pub mod SteppedSaves
 pub mod SavePages
 pub mod ArmSteps
-pub mod ClosingPayments
-pub mod ClosingSteps
-pub mod ClosingStores
-pub mod ClosingSaves
 pub mod Emptied
 pub mod ToldFronts
 pub mod SteppedChannels

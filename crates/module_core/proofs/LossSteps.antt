@@ -20,8 +20,9 @@ use Rattle.energy_budget.specs.declared.energy.GaugeCall.TheVariants.{Pay}
 use Rattle.energy_budget.proofs.Totals.{total_cost-cons, total_cost-nil}
 use Rattle.energy_budget.specs.Actions.{cost_of, drain_actions, total_cost}
 use Rattle.energy_budget.specs.Gauge.{PaysCost}
-use Rattle.module_core.specs.Closing.{ClosesChannels, ClosingAt, DarkInDrains, SavesClosing}
-use Rattle.module_core.specs.Saving.{IsAmongEither}
+use Rattle.module_saves.specs.Closing.{SavesClosing}
+use Rattle.module_core.specs.Drained.{ClosesChannels, ClosingAt, DarkInDrains}
+use Rattle.module_saves.specs.Saving.{IsAmongEither}
 use Rattle.slot_store.specs.Finishing.{Finish}
 use Rattle.nv_machine.proofs.Payments.{pays_append}
 use Rattle.nv_machine.specs.Losses.{LoseStep, LosesMains, PaysFirst, drains_of, payments_of, save_calls, steps_of}
@@ -29,7 +30,7 @@ use Rattle.arm_state.specs.declared.loss.Loss.TheVariants as loss
 use Rattle.arm_state.specs.declared.mode.Mode.TheVariants as modes
 use Rattle.slot_store.specs.declared.source.BrokenOff.TheVariants as broken
 use Rattle.module_core.proofs.Common.{[], ℕ, ◌<◌, ◌∙◌, ◌∷◌, ◌≡◌, Action, Costs, Dark, DeviceState, Err, Gauge, GaugeCall, Image, IsAmong, LeavesOnly, List, Machine, Mode, None, Ok, ReachesStore, ReadsLevel, Setup, Some, StopsWithin, Store, Waiting, Waits, World, after, after_steps, ap, append-nil, arith, drop, false, inl, inr, is_backed, length, length-append, made_of, more, present, refl, restored, rules, saved_in, started, step_failed, subst, suc, sym, take, true}
-use Rattle.module_core.proofs.RunningSaves.{broken_none, failed_none}
+use Rattle.module_saves.proofs.RunningSaves.{broken_none, failed_none}
 
 -- where the payments stopped
 record StopsAt (costs : Costs) (payments : List (List Action)) (old new : Gauge) : Type 0 where

@@ -4,7 +4,7 @@ use Rattle.channel_set.specs.Carrying.{CarriesAll, KeepsAll}
 use Rattle.channel_set.specs.Issuing.{IssuesNone}
 use Rattle.channel_set.specs.declared.set.ChannelSet.{ChannelSet}
 use Rattle.line_memory.specs.declared.Write.{Write}
-use Rattle.module_core.specs.Closing.{ClosesChannels, ClosingAt, closing_at}
+use Rattle.module_core.specs.Drained.{ClosesChannels, ClosingAt, closing_at}
 use Rattle.module_core.specs.Fronts.{SameNumbers}
 use Rattle.module_core.specs.Draining.{AreDrainedFrom, EndsHoldAndReads}
 use Rattle.module_core.specs.Issuing.{IssuesAtLoss}
@@ -27,10 +27,10 @@ use Rattle.nv_machine.specs.declared.events.Reply.TheVariants as replies
 use Rattle.module_core.proofs.Common.{[], ℕ, ◌∙◌, ◌≡◌, Assembly, BeginsSave, ChannelsView, DeviceState, Err, Gauge, GaugeCall, Ghosts, Holds, HoldsWhile, Image, IsAmong, IsMemory, IsReadyToClose, IsResting, List, Machine, Matches, Mode, Module, ModuleStands, Newest, None, Ok, Option, ReachesStore, ReadsLevel, SaveRun, Shape, Some, StopsWithin, Store, Waits, after, ap, assembly, base_of_life, begun, begun_save, false, has_ended, hold_of, inl, is_backed, lines_of_module, made_of, memory_of, present, refl, restored, rules, saved_in, saves_at, setup_of, shape_of, start_of_life, started, subst, sym, true, view_of, weaker, world_of}
 use Rattle.module_core.specs.Losing.{AnswersLoss}
 use Rattle.module_core.proofs.Applying.{asked, counted, issues_none, same_lines, same_setup, unissued, unmoved}
-use Rattle.module_core.proofs.Knowing.{holds_begun}
+use Rattle.module_saves.proofs.Knowing.{holds_begun}
 use Rattle.module_core.proofs.LossSteps.{all_saved, dark, fault, saved_on}
-use Rattle.module_core.proofs.RunningSaves.{holds_runs}
-use Rattle.module_core.proofs.StoreSteps.{at_rest, stop_now}
+use Rattle.module_saves.proofs.RunningSaves.{holds_runs}
+use Rattle.module_saves.proofs.StoreSteps.{at_rest, stop_now}
 
 -- neither ended nor backed
 disarmed_mode : (mode : Mode) → has_ended mode ≡ false → is_backed mode ≡ false → mode ≡ modes.Disarmed

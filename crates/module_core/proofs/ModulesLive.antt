@@ -13,7 +13,7 @@ use Rattle.slot_store.proofs.Resting.{found_only}
 use Rattle.slot_store.specs.Outcomes.{Found}
 use Rattle.module_core.proofs.Common.{◌≡◌, DeviceState, Ghosts, Image, Module, ModuleStands, Setup, StopsWithin, World, arith, lines_of_module, point_of, present, refl, restored, setup_of, subst, world_of}
 use Rattle.module_core.proofs.RunsOn.{run_worlds}
-use Rattle.module_core.proofs.StoreSteps.{stop_now}
+use Rattle.module_saves.proofs.StoreSteps.{stop_now}
 
 module _ {K : Type 0} (L : Ghosts K) where
   -- a module that stands for a new life has its image on the device

@@ -12,7 +12,7 @@ use Rattle.nv_machine.proofs.Leaving.{left_after}
 use Rattle.nv_machine.proofs.JoinedRuns.{charged_only, join_runs_of, no_pause, pause_twice}
 use Rattle.nv_machine.specs.Headline.{MayCut, MayPause, Run, pause_at}
 use Rattle.module_core.proofs.Common.{[], arith, ℕ, ◌++◌, ◌+◌, ◌<◌, ◌≤◌, ◌∙◌, ◌∷◌, ◌≡◌, AnswersAll, AreSameSave, Assembly, DeviceState, Event, Gauge, Ghosts, HappensAt, Holds, IsMemory, Knows, List, Machine, Matches, Module, ModuleStands, Reply, Saves, Setup, ap, assembly, length, lines_of_module, memory_of, point_of, refl, restored, setup_of, shape_of, subst, sym, take, world_of}
-use Rattle.module_core.proofs.StoreSteps.{stop_now}
+use Rattle.module_saves.proofs.StoreSteps.{stop_now}
 
 module _ {K : Type 0} (L : Ghosts K) where
   -- a run of the module is one of the machine

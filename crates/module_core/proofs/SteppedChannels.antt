@@ -7,13 +7,17 @@ use Rattle.nv_machine.specs.Machine.{MadeStep}
 use Rattle.nv_machine.specs.Moves.{finished}
 use Rattle.nv_machine.specs.declared.events.StepReply.{StepReply}
 use Rattle.nv_machine.specs.declared.events.StepReply.TheVariants as step
-use Rattle.module_core.proofs.Common.{AreSameSave, ChannelsView, ForSome, Ghosts, IsMemory, Machine, None, Option, RunningSave, SaveRun, Setup, Some, Step, WaitsFrom, all_of, ap, base_of_life, hold_at, hold_of, memory_of, next_of, option_map, refl, shape_of, start_of_life, step_after, subst, sym, view_of, ℕ, ◌∙◌, ◌≡◌}
-use Rattle.module_core.proofs.RunningSaves.{failed_none, held_next, hold_next}
+use Rattle.module_core.proofs.Common.{AreSameSave, ChannelsView, ForSome, Ghosts, IsMemory, Machine, None, Option, RunningSave, SaveRun, Setup, Some, Step, WaitsFrom, all_of, ap, base_of_life, hold_at, hold_of, memory_of, next_of, option_map, refl, rules, shape_of, start_of_life, step_after, subst, sym, view_of, ℕ, ◌∙◌, ◌≡◌}
+use Rattle.module_saves.proofs.RunningSaves.{failed_none, held_next}
 
 -- the coming step of the save that runs
 coming : (save : RunningSave) (r : Option SaveRun) → AreSameSave (Some save) r → option_map next_of r ≡ Some save.next
 coming save None none = absurd none
 coming save (Some run) same = ap (λ (x : Step). Some x) same.0
+
+-- the hold goes on with the steps, and ends behind the last page
+hold_next : (lines count : ℕ) (next : Step) → hold_behind (Some (step_after lines next)) (hold_at count next) ≡ hold_at count (step_after lines next)
+hold_next lines count next = search rules
 
 module _ {K : Type 0} (L : Ghosts K) where
   -- what the channels have to do with a machine

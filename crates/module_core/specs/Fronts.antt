@@ -5,8 +5,8 @@ use Rattle.channel_port.specs.Shape.{Shape, is_full_at}
 use Rattle.channel_port.specs.Waits.{Waits}
 use Rattle.line_memory.specs.declared.Write.{Write}
 use Rattle.module_core.specs.declared.front.Front.{Front}
-use Rattle.module_core.specs.Saves.{StoreMoves}
-use Rattle.module_core.specs.Saving.{AreSameSave, Knows}
+use Rattle.module_saves.specs.Saves.{StoreMoves}
+use Rattle.module_saves.specs.Saving.{AreSameSave, Knows}
 use Rattle.nv_machine.specs.Moves.{written}
 use Rattle.nv_machine.specs.Refusals.{need_for}
 use Rattle.nv_machine.specs.State.{Machine, Setup, all_of, pending_of, start_of_life}

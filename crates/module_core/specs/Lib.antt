@@ -1,7 +1,4 @@
 -- the store of the machine, and what the module and its device know of it
-pub mod Device
-pub mod Saving
-pub mod Saves
 -- which machine a front stands for, and a module; and what each of its calls answers
 pub mod Fronts
 pub mod Draining
@@ -11,7 +8,7 @@ pub mod Parts
 pub mod Cutting
 pub mod Opening
 pub mod Stepping
-pub mod Closing
+pub mod Drained
 pub mod Covering
 -- what the laws say of modules
 pub mod InTurn

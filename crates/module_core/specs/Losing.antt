@@ -16,10 +16,10 @@ use Rattle.nv_machine.specs.State.{Machine}
 use Rattle.nv_machine.specs.declared.events.Event.TheVariants as events
 use Rattle.nv_machine.specs.declared.events.Reply.TheVariants as replies
 use Rattle.module_core.specs.declared.module.Module.{Module}
-use Rattle.module_core.specs.Closing.{HasDrained}
+use Rattle.module_core.specs.Drained.{HasDrained}
 use Rattle.module_core.specs.Covering.{IsCovered}
 use Rattle.module_core.specs.HonestCalls.{SavesWhereHonest}
-use Rattle.module_core.specs.Saves.{BeginsSave}
+use Rattle.module_saves.specs.Saves.{BeginsSave}
 use Rattle.module_core.specs.Stands.{Assembly, EndsMains, HappensAt, ModuleStands, assembly, lines_of_module, point_of, setup_of, world_of}
 
 module _ {K : Type 0} (L : Ghosts K) where

@@ -6,7 +6,7 @@ use Rattle.channel_port.specs.declared.port.ChannelPort.{Ghosts}
 use Rattle.channel_port.specs.declared.stage.Stage.TheVariants.{OnMains}
 use Rattle.channel_set.specs.Set.{AreAt, shape_of, view_of}
 use Rattle.channel_set.specs.declared.set.ChannelSet.{ChannelSet}
-use Rattle.module_core.specs.Saving.{IsOfLines}
+use Rattle.module_saves.specs.Saving.{IsOfLines}
 use Rattle.module_core.specs.declared.front.Front.{Front}
 
 -- No write waits that the front hasn't accepted; on mains the channels are on mains too; and a save that runs is one of their lines.

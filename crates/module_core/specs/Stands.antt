@@ -28,8 +28,8 @@ use Rattle.nv_machine.specs.State.{Setup, Machine, World, start_of_life, base_of
 use Rattle.nv_machine.specs.Machine.{TakesReading}
 use Rattle.nv_machine.specs.Guard.{IsGuarded}
 use Rattle.nv_machine.specs.Headline.{RecoversAfterwards, Happens, MayPause, Pause, RunOf, pause_at, paused}
-use Rattle.module_core.specs.Saves.{StoreMoves}
-use Rattle.module_core.specs.Device.{Holds}
+use Rattle.module_saves.specs.Saves.{StoreMoves}
+use Rattle.module_saves.specs.Device.{Holds}
 use Rattle.module_core.specs.Fronts.{FrontMatches, SameNumbers, setup_in}
 use Rattle.module_core.specs.Draining.{EndsHoldAndReads}
 use Rattle.module_core.specs.Issuing.{Issues}

@@ -12,7 +12,7 @@ use Rattle.nv_machine.specs.Machine.{MadeStep, step_call, is_made}
 use Rattle.module_core.specs.declared.front.Front.{Front}
 use Rattle.module_core.specs.declared.module.Module.{Module}
 use Rattle.module_core.specs.Fronts.{FrontMatches, setup_in}
-use Rattle.module_core.specs.Saves.{IsReadyFor, ReachesStore}
+use Rattle.module_saves.specs.Saves.{IsReadyFor, ReachesStore}
 use Rattle.module_core.specs.Stands.{Matches, lines_of_module, setup_of}
 
 -- One call of the device was made, that of the save's coming step.

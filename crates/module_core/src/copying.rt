@@ -1,36 +1,10 @@
 // Modules of the same value.
 ghost use Rattle.std.specs.Prelude.{◌≡◌, IfOk};
 
-use crate::{Front, Module, Saves};
+use crate::{Front, Module};
 use channel_port::ChannelPort;
 use same_values::CopyValue;
-use slot_store::SaveRun;
 use std::alloc::{AllocError, Global};
-
-// The same save, if one runs.
-fn copy_of_save(saving: &Option<SaveRun>) -> Option<SaveRun>
-    ensures { result ≡ saving.now }
-{
-    match saving {
-        Some(run) => Some(run.copy()),
-        None => None,
-    }
-}
-
-impl Saves {
-    // The same image, with the same save that runs, if one does.
-    fn copy(&self) -> Saves
-        ensures { result ≡ self.now }
-    {
-        let saving = copy_of_save(&self.saving);
-        Saves {
-            newest: self.newest,
-            closed: self.closed,
-            unsettled: self.unsettled,
-            saving,
-        }
-    }
-}
 
 impl Front {
     // The same front.

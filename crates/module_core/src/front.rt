@@ -1,16 +1,16 @@
 // The front: a life without its channels.
-ghost use Rattle.std.specs.Prelude.{◌≡◌, ◌+◌, ◌<◌, ◌≤◌, ◌^◌, ℕ, true, false, nat_le, IfNone};
+ghost use Rattle.std.specs.Prelude.{◌≡◌, ◌+◌, ◌<◌, ◌≤◌, ◌^◌, ℕ, true, false, nat_le, None, Some, IfErr, IfNone, IfOk};
 ghost use Rattle.arm_state.specs.Modes.{is_armed, is_backed, has_ended};
 ghost use Rattle.arm_state.specs.declared.mode.Mode.TheVariants.{Disarming};
 ghost use Rattle.channel_port.specs.Shape.{Shape, is_full_of_reads_at};
 ghost use Rattle.line_memory.specs.Memory.{IsMemory};
 ghost use Rattle.nv_machine.specs.State.{Machine, memory_of, pending_of};
 ghost use Rattle.slot_store.specs.Slots.{IsCapacity};
-ghost use Rattle.module_core.specs.Saving.{MakesAtMost, MakesBetween};
+ghost use Rattle.module_saves.specs.Saving.{MakesAtMost, MakesBetween};
 
 use crate::opening::LifeTerms;
-use crate::saves::Saves;
 use arm_state::{Mode, ReadRefusal, SaveState, WriteRefusal};
+use module_saves::Saves;
 use nv_machine::Accepted;
 
 /// No save is begun over a newest image of this generation or a greater one.
@@ -47,11 +47,10 @@ impl Front {
     ghost use Rattle.nv_machine.specs.Moves.{begun, disarming};
     ghost use Rattle.nv_machine.specs.Refusals.{is_low, need_for, saves_of, read_refusal, write_refusal};
     ghost use Rattle.module_core.specs.Fronts.{AcceptsOne, FrontMatches, FrontMoves, HasRoomForWrite, IsUnspentWhileArmed, SameButSaves, SameNumbers, TellsWrite, setup_in};
-    ghost use Rattle.module_core.specs.Saves.{BeginsSave};
+    ghost use Rattle.module_saves.specs.Saves.{BeginsSave};
 
-    /// Which refusal a write to one of the lines meets, if any. It is told whether the line's channel is full, and what the gauge
-    /// has to show while one write more waits.
-    pub fn write_refusal(&self, is_full: bool, need: u64) -> Option<WriteRefusal>
+    // Which refusal a write to one of the lines meets, if any.
+    fn write_refusal(&self, is_full: bool, need: u64) -> Option<WriteRefusal>
         ensures refusal { (shape : Shape) (m : Machine) (line : ℕ) → FrontMatches self.now m
             → TellsWrite (setup_in shape self.now) m line is_full need
             → result ≡ write_refusal (setup_in shape self.now) m line }
@@ -80,26 +79,8 @@ impl Front {
         None
     }
 
-    /// Which refusal a read of one of the lines meets, if any. It is told whether as many reads are open as may be in the line's
-    /// channel.
-    pub fn read_refusal(&self, is_full: bool) -> Option<ReadRefusal>
-        ensures refusal { (shape : Shape) (m : Machine) (line : ℕ) → FrontMatches self.now m
-            → line < shape.lines → is_full ≡ is_full_of_reads_at shape m.waits line
-            → result ≡ read_refusal (setup_in shape self.now) m line }
-        ensures running { IfNone result (has_ended self.now.mode ≡ false) }
-        ensures full { IfNone result (is_full ≡ false) }
-    {
-        if self.mode.has_ended() {
-            return Some(ReadRefusal::Closed);
-        }
-        if is_full {
-            return Some(ReadRefusal::Full);
-        }
-        None
-    }
-
-    /// Accepts a write: it has the next number, and while armed it is persistent at once.
-    pub fn accept(&mut self) -> Accepted
+    // Accepts a write: it has the next number, and while armed it is persistent at once.
+    fn accept(&mut self) -> Accepted
         requires { HasRoomForWrite self.old }
         ensures accepts { AcceptsOne self.old result self.new }
     {
@@ -112,6 +93,51 @@ impl Front {
             number,
             mark: self.persisted,
         }
+    }
+
+    /// Accepts a write to one of the lines, which has the next number and is persistent at once while armed; or answers the first
+    /// refusal that it meets. It is told whether the line's channel is full, and what the gauge has to show while one write more
+    /// waits.
+    pub fn accept_write(&mut self, is_full: bool, need: u64) -> Result<Accepted, WriteRefusal>
+        ensures refusal { IfErr result (λ refusal. (shape : Shape) (m : Machine) (line : ℕ)
+            → FrontMatches self.old m → TellsWrite (setup_in shape self.old) m line is_full need
+            → write_refusal (setup_in shape self.old) m line ≡ Some refusal) }
+        ensures admitted { IfOk result (λ accepted. (shape : Shape) (m : Machine) (line : ℕ)
+            → FrontMatches self.old m → TellsWrite (setup_in shape self.old) m line is_full need
+            → write_refusal (setup_in shape self.old) m line ≡ None) }
+        ensures running { IfOk result (λ accepted. has_ended self.old.mode ≡ false) }
+        ensures full { IfOk result (λ accepted. is_full ≡ false) }
+        ensures accepts { IfOk result (λ accepted. AcceptsOne self.old accepted self.new) }
+        ensures same { IfErr result (λ refusal. self.new ≡ self.old) }
+    {
+        match self.write_refusal(is_full, need) {
+            Some(refusal) => Err(refusal),
+            None => Ok(self.accept()),
+        }
+    }
+
+    /// How many writes were accepted before a read of one of the lines, which sees them all; or the first refusal that it meets.
+    /// It is told whether as many reads are open as may be in the line's channel.
+    pub fn admit_read(&self, is_full: bool) -> Result<u64, ReadRefusal>
+        ensures refusal { IfErr result (λ refusal. (shape : Shape) (m : Machine) (line : ℕ)
+            → FrontMatches self.now m → line < shape.lines
+            → is_full ≡ is_full_of_reads_at shape m.waits line
+            → read_refusal (setup_in shape self.now) m line ≡ Some refusal) }
+        ensures admitted { IfOk result (λ at. (shape : Shape) (m : Machine) (line : ℕ)
+            → FrontMatches self.now m → line < shape.lines
+            → is_full ≡ is_full_of_reads_at shape m.waits line
+            → read_refusal (setup_in shape self.now) m line ≡ None) }
+        ensures running { IfOk result (λ at. has_ended self.now.mode ≡ false) }
+        ensures full { IfOk result (λ at. is_full ≡ false) }
+        ensures at { IfOk result (λ at. at ≡ self.now.accepted) }
+    {
+        if self.mode.has_ended() {
+            return Err(ReadRefusal::Closed);
+        }
+        if is_full {
+            return Err(ReadRefusal::Full);
+        }
+        Ok(self.accepted)
     }
 
     /// While armed: the last reading is below what the gauge has to show for what waits.

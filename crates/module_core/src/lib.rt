@@ -6,7 +6,6 @@
 #![tactic(auto)]
 
 mod arming;
-mod closing;
 mod copying;
 mod cutting;
 mod front;
@@ -18,7 +17,6 @@ mod numbers;
 mod opening;
 mod parts;
 mod running;
-mod saves;
 mod stepping;
 mod telling;
 mod turns;
@@ -28,5 +26,4 @@ pub use laws::{marks_rise, modules_live, runs_issue};
 pub use module::Module;
 pub use opening::LifeTerms;
 pub use parts::TakenApart;
-pub use saves::Saves;
 pub use turns::{any_gauges, calls_in_turn, honest_modules};

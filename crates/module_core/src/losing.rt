@@ -17,10 +17,10 @@ use nv_machine::{Event, Reply};
 use save_device::SaveDevice;
 use slot_store::BrokenOff;
 use std::thread::Threads;
-use worker_gate::Gate;
+use worker_turns::Gate;
 
 impl<K: ChannelPort> Module<K> {
-    ghost use Rattle.module_core.specs.Saves.{BeginsSave};
+    ghost use Rattle.module_saves.specs.Saves.{BeginsSave};
     ghost use Rattle.module_core.specs.Stands.{EndsMains};
 
     // Ends all work on mains; a save that runs is given up.
@@ -61,7 +61,7 @@ impl<K: ChannelPort> Module<K> {
 }
 
 impl<K: ChannelPort> Module<K> {
-    ghost use Rattle.module_core.specs.Closing.{ClosesDrained};
+    ghost use Rattle.module_core.specs.Drained.{ClosesDrained};
     ghost use Rattle.module_core.specs.Draining.{WhereDrained};
     ghost use Rattle.module_core.specs.Losing.{BeginsLoss, ConcludesLoss, LosesAlone};
     ghost use Rattle.slot_store.specs.declared.source.BrokenOff.TheVariants as broken;
@@ -163,7 +163,7 @@ impl<K: ChannelPort> Module<K> {
     ghost use Rattle.module_core.specs.HonestCalls.{SavesWhereHonest};
     ghost use Rattle.module_core.specs.Losing.{LosesBy};
     ghost use Rattle.module_core.specs.Stands.{Answers, HasDevice, KeepsStored, setup_of, assembly};
-    ghost use Rattle.worker_gate.specs.Waiting.{AreAwaited};
+    ghost use Rattle.worker_turns.specs.Waiting.{AreAwaited};
 
     /// Mains were lost (CSAVE in JESD245). Where acknowledged writes are to be saved, the channels are drained one after another
     /// and all accepted writes are saved, each action paid for first; a payment that is refused or a fault of the device breaks

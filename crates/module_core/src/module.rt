@@ -1,19 +1,18 @@
 // The module, and its calls that ask nothing of the device.
-ghost use Rattle.std.specs.Prelude.{◌≡◌, ◌==◌, ◌+◌, ◌-◌, ◌<◌, ◌≤◌, ◌^◌, true, false, length, nat_le, None, Some, IfErr, IfOk};
+ghost use Rattle.std.specs.Prelude.{◌≡◌, ◌+◌, ◌≤◌, ◌^◌, true, false, length, nat_le, None, Some};
 ghost use Rattle.save_device.specs.Device.{DeviceState};
 ghost use Rattle.arm_state.specs.Modes.{is_armed, has_ended};
-ghost use Rattle.channel_port.specs.Waits.{AllBelow, reads_on, writes_on};
+ghost use Rattle.channel_port.specs.Waits.{AllBelow};
 ghost use Rattle.channel_port.specs.declared.stage.Stage.TheVariants.{OnMains};
 ghost use Rattle.channel_set.specs.Issuing.{IssuesNone};
-ghost use Rattle.channel_set.specs.Set.{AreAt, place_in, shape_of, view_of};
+ghost use Rattle.channel_set.specs.Set.{AreAt, shape_of, view_of};
 ghost use Rattle.nv_machine.specs.State.{Machine};
-ghost use Rattle.module_core.specs.Saving.{IsOfLines};
+ghost use Rattle.module_saves.specs.Saving.{IsOfLines};
 
 use crate::Front;
 use arm_state::{ArmRefusal, DisarmReply, ReadRefusal, SaveState, WriteRefusal};
 use channel_port::{ChannelPort, Collected, Done, Got, Ticket};
 use channel_set::ChannelSet;
-use ddr4_timing::place::Place;
 use energy_budget::Energy;
 use line_memory::Write;
 use nv_machine::{Accepted, Event, Reply};
@@ -29,10 +28,10 @@ pub struct Module<K: ChannelPort> {
 }
 
 impl<K: ChannelPort> Module<K> {
-    ghost use Rattle.nv_machine.specs.Refusals.{is_low, need_for, saves_of, write_refusal, read_refusal};
+    ghost use Rattle.nv_machine.specs.Refusals.{is_low, need_for, saves_of};
     ghost use Rattle.nv_machine.specs.Moves.{begun, disarming};
-    ghost use Rattle.module_core.specs.Fronts.{HasRoomForWrite, IsUnspentWhileArmed};
-    ghost use Rattle.module_core.specs.Stands.{Matches, Follows, FollowsReading, Answers, AnswersAlone, HasChannel, KeepsStored, assembly, lines_of_module, setup_of};
+    ghost use Rattle.module_core.specs.Fronts.{IsUnspentWhileArmed};
+    ghost use Rattle.module_core.specs.Stands.{Matches, Follows, FollowsReading, Answers, AnswersAlone, HasChannel, KeepsStored, assembly, setup_of};
 
     // What the gauge has to show while this many writes wait.
     pub(crate) fn need_for(&self, pending: u64) -> u64
@@ -54,32 +53,6 @@ impl<K: ChannelPort> Module<K> {
         }
     }
 
-    // Where an accepted write goes, or why it isn't accepted.
-    fn admit_write(&self, line: u64) -> Result<Place, WriteRefusal>
-        ensures refusal { IfErr result (λ refusal. (m : Machine) → Matches K.ChannelPort self.now m
-            → write_refusal (setup_of K.ChannelPort self.now) m line ≡ Some refusal) }
-        ensures admitted { IfOk result (λ place. (m : Machine) → Matches K.ChannelPort self.now m
-            → write_refusal (setup_of K.ChannelPort self.now) m line ≡ None) }
-        ensures line { IfOk result (λ place. line < lines_of_module K.ChannelPort self.now) }
-        ensures place { IfOk result (λ place.
-            place ≡ place_in K.ChannelPort self.now.channels line) }
-        ensures running { IfOk result (λ place. has_ended self.now.front.mode ≡ false) }
-        ensures room { IfOk result (λ place.
-            (writes_on place.channel (view_of K.ChannelPort self.now.channels).waits.writes
-            == (shape_of K.ChannelPort self.now.channels).depth) ≡ false) }
-        ensures numbers { IfOk result (λ place. HasRoomForWrite self.now.front) }
-    {
-        let Some(place) = self.channels.locate(line) else {
-            return Err(WriteRefusal::NoSuchLine);
-        };
-        let is_full = self.channels.is_full(place.channel);
-        let need = self.need_of_one_more(is_full);
-        match self.front.write_refusal(is_full, need) {
-            Some(refusal) => Err(refusal),
-            None => Ok(place),
-        }
-    }
-
     /// Accepts a write, which later reads see; while armed it is persistent at once.
     pub fn write(&mut self, write: Write) -> Result<Accepted, WriteRefusal>
         ensures answers { AnswersAlone K.ChannelPort (Event.Write write) (Reply.Write result)
@@ -87,35 +60,17 @@ impl<K: ChannelPort> Module<K> {
         ensures stored { KeepsStored K.ChannelPort (Reply.Write result) self.old self.new }
         ensures setup { setup_of K.ChannelPort self.new ≡ setup_of K.ChannelPort self.old }
     {
-        let place = match self.admit_write(write.line) {
-            Ok(place) => place,
-            Err(refusal) => return Err(refusal),
+        let Some(place) = self.channels.locate(write.line) else {
+            return Err(WriteRefusal::NoSuchLine);
         };
-        self.channels.put(self.front.accepted, write, place);
-        Ok(self.front.accept())
-    }
-
-    // Where a read goes, or why it isn't answered.
-    fn admit_read(&self, line: u64) -> Result<Place, ReadRefusal>
-        ensures refusal { IfErr result (λ refusal. (m : Machine) → Matches K.ChannelPort self.now m
-            → read_refusal (setup_of K.ChannelPort self.now) m line ≡ Some refusal) }
-        ensures admitted { IfOk result (λ place. (m : Machine) → Matches K.ChannelPort self.now m
-            → read_refusal (setup_of K.ChannelPort self.now) m line ≡ None) }
-        ensures line { IfOk result (λ place. line < lines_of_module K.ChannelPort self.now) }
-        ensures place { IfOk result (λ place.
-            place ≡ place_in K.ChannelPort self.now.channels line) }
-        ensures running { IfOk result (λ place. has_ended self.now.front.mode ≡ false) }
-        ensures room { IfOk result (λ place.
-            (reads_on place.channel (view_of K.ChannelPort self.now.channels).waits.reads
-            == (shape_of K.ChannelPort self.now.channels).reads) ≡ false) }
-    {
-        let Some(place) = self.channels.locate(line) else {
-            return Err(ReadRefusal::NoSuchLine);
-        };
-        let is_full = self.channels.is_full_of_reads(place.channel);
-        match self.front.read_refusal(is_full) {
-            Some(refusal) => Err(refusal),
-            None => Ok(place),
+        let is_full = self.channels.is_full(place.channel);
+        let need = self.need_of_one_more(is_full);
+        match self.front.accept_write(is_full, need) {
+            Ok(accepted) => {
+                self.channels.put(accepted.number, write, place);
+                Ok(accepted)
+            }
+            Err(refusal) => Err(refusal),
         }
     }
 
@@ -126,8 +81,12 @@ impl<K: ChannelPort> Module<K> {
         ensures stored { KeepsStored K.ChannelPort (Reply.Read result) self.old self.new }
         ensures setup { setup_of K.ChannelPort self.new ≡ setup_of K.ChannelPort self.old }
     {
-        match self.admit_read(line) {
-            Ok(place) => Ok(self.channels.get(line, place, self.front.accepted)),
+        let Some(place) = self.channels.locate(line) else {
+            return Err(ReadRefusal::NoSuchLine);
+        };
+        let is_full = self.channels.is_full_of_reads(place.channel);
+        match self.front.admit_read(is_full) {
+            Ok(at) => Ok(self.channels.get(line, place, at)),
             Err(refusal) => Err(refusal),
         }
     }

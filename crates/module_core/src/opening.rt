@@ -4,10 +4,11 @@ ghost use Rattle.save_device.specs.Device.{DeviceState};
 ghost use Rattle.save_image.specs.Header.{Fits};
 ghost use Rattle.save_image.specs.Image.{Image};
 
-use crate::{Front, Module, Saves};
+use crate::{Front, Module};
 use arm_state::Mode;
 use channel_port::ChannelPort;
 use channel_set::ChannelSet;
+use module_saves::Saves;
 use slot_store::Head;
 
 /// What no event of a life changes.

@@ -1,24 +1,26 @@
 // The steps of a save on mains.
-ghost use Rattle.std.specs.Prelude.{◌≡◌, ℕ, false, Some, IsSome};
+ghost use Rattle.std.specs.Prelude.{◌≡◌, ◌≤◌, ℕ, false, Some, IsSome};
 ghost use Rattle.channel_set.specs.Issuing.{IssuesNone};
-ghost use Rattle.channel_set.specs.Set.{view_of};
+ghost use Rattle.channel_set.specs.Set.{shape_of, view_of};
 ghost use Rattle.arm_state.specs.Modes.{has_ended, repeats_in};
 ghost use Rattle.channel_port.specs.Shape.{Shape};
+ghost use Rattle.slot_store.specs.Changes.{GivesPage};
 ghost use Rattle.slot_store.specs.Slots.{HasSize};
+ghost use Rattle.slot_store.specs.Steps.{reach_of};
 ghost use Rattle.nv_machine.specs.State.{Machine, RunningSave};
 ghost use Rattle.nv_machine.specs.Moves.{persisted_at_end};
 ghost use Rattle.nv_machine.specs.Machine.{must_wait};
 
-use crate::saves::StepFault;
 use crate::{Front, Module};
 use arm_state::{Mode, Move};
 use channel_port::ChannelPort;
 use channel_set::ChannelSet;
 use energy_budget::Energy;
+use module_saves::StepFault;
 use nv_machine::{Event, Reply, StepReply};
 use save_device::SaveDevice;
 use save_image::PAGE_BYTES;
-use slot_store::{Refused, SaveSource, Step, page_for};
+use slot_store::Step;
 
 // How many writes are persistent after the end of a save of so many.
 fn persisted_after_save(mode: Mode, persisted: u64, count: u64) -> u64
@@ -27,31 +29,19 @@ fn persisted_after_save(mode: Mode, persisted: u64, count: u64) -> u64
     if mode.is_armed() { persisted } else { count }
 }
 
-// The arrays of the channels, as a memory whose steps are asked for elsewhere.
-#[derive(Drop)]
-struct Arrays<'a, K: ChannelPort> {
-    channels: &'a ChannelSet<K>,
-}
-
-impl<K: ChannelPort> SaveSource for Arrays<'_, K> {
-    ghost use Rattle.slot_store.specs.Finishing.{GrantsEach};
-
-    ghost memory = { λ arrays. (view_of K.ChannelPort arrays.channels.now).array };
-
-    ghost asks = { GrantsEach };
-
-    fn ask(&mut self, _step: Step) -> Result<(), Refused> {
-        Ok(())
-    }
-
-    fn page<'p>(&'p self, page: usize, room: &'p mut [u8; PAGE_BYTES]) -> &'p [u8; PAGE_BYTES] {
-        *room = self.channels.page(page);
-        room
+// The page of the arrays that a step of a save writes. Of a step that writes none it says nothing.
+fn page_of_step<K: ChannelPort>(channels: &ChannelSet<K>, step: Step) -> [u8; PAGE_BYTES]
+    requires { reach_of step ≤ (shape_of K.ChannelPort channels.now).lines }
+    ensures { GivesPage (view_of K.ChannelPort channels.now).array step result }
+{
+    match step {
+        Step::Page(page) => channels.page(page),
+        _ => [0; PAGE_BYTES],
     }
 }
 
 impl Front {
-    ghost use Rattle.module_core.specs.Saving.{IsOfLines, IsSizedFor};
+    ghost use Rattle.module_saves.specs.Saving.{IsOfLines, IsSizedFor};
     ghost use Rattle.module_core.specs.Stands.{CountsSaved};
     ghost use Rattle.module_core.specs.Stepping.{CallsOnce, FrontMakesReadyStep};
 
@@ -188,10 +178,7 @@ impl<K: ChannelPort> Module<K> {
         if self.take_reading(reading) {
             return StepReply::Turned;
         }
-        let arrays = Arrays {
-            channels: &self.channels,
-        };
-        let page = *page_for(&arrays, step, &mut [0; PAGE_BYTES]);
+        let page = page_of_step(&self.channels, step);
         self.make_step(device, &page)
     }
 }

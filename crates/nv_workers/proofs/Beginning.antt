@@ -15,7 +15,7 @@ use Rattle.channel_port.specs.declared.port.ChannelPort.{Ghosts}
 use Rattle.module_core.specs.declared.module.Module.{Module}
 use Rattle.module_core.specs.Opening.{opened_with}
 use Rattle.module_core.specs.Stands.{lines_of_module}
-use Rattle.module_core.proofs.StoreSteps.{stop_now}
+use Rattle.module_saves.proofs.StoreSteps.{stop_now}
 use Rattle.nv_workers.specs.Kept.{HasJustBegun}
 use Rattle.nv_workers.proofs.Living.{lived_first}
 

@@ -13,7 +13,7 @@ use Rattle.slot_store.specs.declared.saving.SaveRun.{SaveRun}
 use Rattle.channel_port.specs.declared.port.ChannelPort.{Ghosts}
 use Rattle.nv_machine.proofs.Guarded.{persisted_accepted}
 use Rattle.module_core.specs.declared.module.Module.{Module}
-use Rattle.module_core.specs.Device.{HoldsWhile}
+use Rattle.module_saves.specs.Device.{HoldsWhile}
 
 -- a device that holds a store is of the size that its images need
 right_size : (lines : ℕ) (s : Store) (save : Option RunningSave) (run : Option SaveRun) (device : DeviceState) → HoldsWhile save run lines s device → HasSize lines device

@@ -8,7 +8,7 @@ use Rattle.channel_port.specs.declared.port.ChannelPort.{Ghosts}
 use Rattle.nv_workers.specs.declared.checking.Cut.{Cut}
 use Rattle.nv_workers.specs.declared.checking.Stranger.{Stranger}
 use Rattle.nv_workers.specs.declared.host.Receipt.{Receipt}
-use Rattle.worker_loops.specs.declared.awaiting.Seen.{Seen}
+use Rattle.worker_turns.specs.declared.awaiting.Seen.{Seen}
 use Rattle.nv_workers.specs.declared.recorded_module.RecordedModule.{RecordedModule}
 
 -- the write that a receipt is for

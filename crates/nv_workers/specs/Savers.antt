@@ -11,8 +11,8 @@ use Rattle.nv_workers.specs.declared.saver.SaverTurn.{SaverTurn}
 use Rattle.nv_workers.specs.declared.saver.SaverTurn.TheVariants.{Begin, Step, Rest, End}
 use Rattle.nv_workers.specs.declared.saver.Saving.{Saving}
 use Rattle.nv_workers.specs.declared.saver.Saving.TheVariants as savings
-use Rattle.worker_loops.specs.declared.shift.Working.{Working}
-use Rattle.worker_loops.specs.declared.shift.Working.TheVariants as working
+use Rattle.worker_turns.specs.declared.shift.Working.{Working}
+use Rattle.worker_turns.specs.declared.shift.Working.TheVariants as working
 
 -- where no save runs, one is to be begun: while stranded; and while writes are accepted where some were since the newest
 -- image, or where the device failed since a save last ended well

@@ -6,7 +6,7 @@ ghost use Rattle.nv_workers.specs.Ending.{AreChecked, IsBorneOut, IsBorneOutOrPa
 
 use crate::host::Receipt;
 use line_memory::{History, Write};
-use worker_loops::Seen;
+use worker_turns::Seen;
 
 /// What a cut tells. The stored writes go from the number `from` on now, so that receipts with numbers below it and answers given
 /// behind fewer writes need not be kept any more. So many receipts and answers were checked against the writes that were stored

@@ -30,5 +30,4 @@ pub use recorded_module::RecordedModule;
 pub use saver::{SaverTurn, Saving, turn_at, working_of};
 pub use starting::{NotStarted, seated};
 pub use tally::AcceptedCount;
-pub use worker_gate::{Always, Gate, Turn};
-pub use worker_loops::{Ended, Seen, Working};
+pub use worker_turns::{Always, Ended, Gate, Seen, Turn, Working};

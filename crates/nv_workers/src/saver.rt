@@ -4,7 +4,7 @@ ghost use Rattle.nv_workers.specs.Savers.{needs_save, turn_at, working_of};
 
 use arm_state::{ArmRefusal, Mode, SaveState};
 use nv_machine::StepReply;
-use worker_loops::Working;
+use worker_turns::Working;
 
 /// What a saver is to do.
 #[derive(Clone, Copy, Debug, PartialEq, Eq)]

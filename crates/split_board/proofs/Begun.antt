@@ -28,7 +28,7 @@ use Rattle.channel_set.specs.Set.{shape_of}
 use Rattle.channel_set.specs.declared.terms.PortTerms.{PortTerms}
 use Rattle.channel_locks.specs.declared.parts_name.PartsName.{Ghosts as PartsGhosts}
 use Rattle.module_core.specs.declared.front.Front.{Front}
-use Rattle.module_core.specs.Device.{Holds}
+use Rattle.module_saves.specs.Device.{Holds}
 use Rattle.module_core.specs.Fronts.{setup_in}
 use Rattle.module_core.specs.Stands.{Matches, setup_of}
 use Rattle.nv_machine.specs.State.{Machine, Setup, base_of_life, hold_of, start_of_life, stored_base}

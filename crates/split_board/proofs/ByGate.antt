@@ -1,13 +1,13 @@
 -- The turns of a worker, by what its gate told it and what each turn came to.
 use Rattle.std.proofs.Common.{◌≡◌, ℕ, zero, suc, inl, inr, refl, subst}
-use Rattle.worker_gate.specs.declared.Turn.{Turn}
-use Rattle.worker_gate.specs.declared.Turn.TheVariants.{Go, Hold, Stop}
-use Rattle.worker_loops.specs.declared.shift.Shift.{Ghosts}
-use Rattle.worker_loops.specs.declared.shift.Working.{Working}
-use Rattle.worker_loops.specs.declared.shift.Working.TheVariants.{Worked, Rested, Closed}
-use Rattle.worker_loops.specs.declared.turns.Ended.{Ended}
-use Rattle.worker_loops.specs.declared.turns.Ended.TheVariants as ended
-use Rattle.worker_loops.specs.Shifts.{AsksAndObeys, EndsAt, GivesWay, ObeysGate, RestsIfIdle, TurnByTurn, WorksUntil}
+use Rattle.worker_turns.specs.declared.Turn.{Turn}
+use Rattle.worker_turns.specs.declared.Turn.TheVariants.{Go, Hold, Stop}
+use Rattle.worker_turns.specs.declared.shift.Shift.{Ghosts}
+use Rattle.worker_turns.specs.declared.shift.Working.{Working}
+use Rattle.worker_turns.specs.declared.shift.Working.TheVariants.{Worked, Rested, Closed}
+use Rattle.worker_turns.specs.declared.turns.Ended.{Ended}
+use Rattle.worker_turns.specs.declared.turns.Ended.TheVariants as ended
+use Rattle.worker_turns.specs.Shifts.{AsksAndObeys, EndsAt, GivesWay, ObeysGate, RestsIfIdle, TurnByTurn, WorksUntil}
 use Rattle.split_board.specs.Turns.{by_gate}
 
 -- What is lent stays as it is at each question, each turn and each rest.

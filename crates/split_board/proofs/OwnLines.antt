@@ -10,8 +10,8 @@ use Rattle.channel_port.specs.declared.port.ChannelPort.{Ghosts}
 use Rattle.energy_budget.specs.declared.energy.Energy.{Ghosts as GaugeGhosts}
 use Rattle.nv_workers.specs.declared.board_name.BoardName.{Ghosts as BoardGhosts}
 use Rattle.save_device.specs.declared.device.SaveDevice.{Ghosts as DeviceGhosts}
-use Rattle.worker_loops.specs.Lookouts.{EndsWaiting}
-use Rattle.worker_loops.specs.declared.awaiting.Seen.{Seen}
+use Rattle.worker_turns.specs.Lookouts.{EndsWaiting}
+use Rattle.worker_turns.specs.declared.awaiting.Seen.{Seen}
 use Rattle.split_board.specs.Hosts.{HasLostLine, HasReadLine, ReadsAtBoard}
 use Rattle.split_board.specs.Turns.{AwaitsOwn, LooksFor}
 

@@ -14,14 +14,14 @@ use Rattle.channel_locks.specs.declared.turns.ChannelTurn.{ChannelTurn}
 use Rattle.channel_locks.specs.Alone.{ServesAlone}
 use Rattle.channel_locks.specs.Lent.{LentServe, LentTurn}
 use Rattle.channel_part.specs.declared.part.Part.{Part}
-use Rattle.worker_gate.specs.declared.Gate.{Ghosts as GateGhosts}
-use Rattle.worker_gate.specs.declared.Turn.{Turn}
-use Rattle.worker_loops.specs.declared.shift.Shift.{Ghosts as ShiftGhosts}
-use Rattle.worker_loops.specs.declared.shift.Working.{Working}
-use Rattle.worker_loops.specs.declared.shift.Working.TheVariants.{Worked, Rested, Closed}
-use Rattle.worker_loops.specs.declared.turns.Ended.{Ended}
-use Rattle.worker_loops.specs.declared.awaiting.Seen.{Seen}
-use Rattle.worker_loops.specs.Shifts.{WorksUntil}
+use Rattle.worker_turns.specs.declared.Gate.{Ghosts as GateGhosts}
+use Rattle.worker_turns.specs.declared.Turn.{Turn}
+use Rattle.worker_turns.specs.declared.shift.Shift.{Ghosts as ShiftGhosts}
+use Rattle.worker_turns.specs.declared.shift.Working.{Working}
+use Rattle.worker_turns.specs.declared.shift.Working.TheVariants.{Worked, Rested, Closed}
+use Rattle.worker_turns.specs.declared.turns.Ended.{Ended}
+use Rattle.worker_turns.specs.declared.awaiting.Seen.{Seen}
+use Rattle.worker_turns.specs.Shifts.{WorksUntil}
 
 -- how a channel's worker goes on behind its turn
 abbrev pub going_on : ChannelTurn → Working

@@ -11,14 +11,14 @@ use Rattle.nv_workers.specs.declared.board_name.BoardName.{Ghosts as BoardGhosts
 use Rattle.nv_workers.specs.declared.checking.Cut.{Cut}
 use Rattle.nv_workers.specs.declared.checking.Stranger.{Stranger}
 use Rattle.nv_workers.specs.declared.host.Receipt.{Receipt}
-use Rattle.worker_loops.specs.declared.awaiting.Seen.{Seen}
+use Rattle.worker_turns.specs.declared.awaiting.Seen.{Seen}
 use Rattle.nv_workers.specs.declared.saver.Saving.{Saving}
 use Rattle.nv_machine.specs.declared.events.StepReply.TheVariants as step
 use Rattle.nv_workers.specs.declared.saver.Saving.TheVariants.{Began, Stepped, Rested, Closed}
 use Rattle.nv_workers.specs.Ending.{AreChecked, IsStranger}
 use Rattle.nv_workers.specs.Savers.{turn_of, turn_taken, working_of}
-use Rattle.worker_gate.specs.declared.Gate.{Ghosts as GateGhosts}
-use Rattle.worker_loops.specs.declared.shift.Working.{Working}
+use Rattle.worker_turns.specs.declared.Gate.{Ghosts as GateGhosts}
+use Rattle.worker_turns.specs.declared.shift.Working.{Working}
 use Rattle.board_desk.specs.declared.desk.Desk.{Desk}
 use Rattle.board_desk.specs.Calling.{Course, Paused, save_begin_course, save_step_course}
 use Rattle.board_desk.specs.Desk.{DeskStands}

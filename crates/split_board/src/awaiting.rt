@@ -10,7 +10,7 @@ use nv_workers::{BoardName, Seen};
 use save_device::SaveDevice;
 use std::sync::Wait;
 use std::thread;
-use worker_loops::{Lookout, await_read};
+use worker_turns::{Lookout, await_read};
 
 // What a board lends a read that waits.
 #[derive(Drop)]

@@ -17,7 +17,7 @@ use nv_workers::BoardName;
 use save_device::SaveDevice;
 use std::sync::Wait;
 use std::thread::Threads;
-use worker_gate::Gate;
+use worker_turns::Gate;
 
 impl<K, D, E, B, N> Board<K, D, E, B, N>
 where

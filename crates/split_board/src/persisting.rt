@@ -12,7 +12,7 @@ use nv_workers::{BoardName, Host, Receipt};
 use save_device::SaveDevice;
 use std::sync::Wait;
 use std::time::Clock;
-use worker_loops::give_way;
+use worker_turns::give_way;
 
 /// Mains were lost while a write wasn't known to be persistent: the mark that was found behind the loss.
 #[derive(Clone, Copy, Debug, PartialEq, Eq)]

@@ -15,8 +15,7 @@ use save_device::SaveDevice;
 use std::sync::Wait;
 use std::thread;
 use std::time::{Clock, Duration};
-use worker_gate::{Gate, Turn};
-use worker_loops::{Ended, Shift, Working, give_way, take_turns};
+use worker_turns::{Ended, Gate, Shift, Turn, Working, give_way, take_turns};
 
 /// How long a saver sleeps at least behind a begin and behind a step, with no lock held, in microseconds; on most systems some fifty
 /// more. A thread that waits for a lock tries it and gives way in turn: it would find it taken at each try if the saver took all

@@ -49,7 +49,6 @@ struct Prepared<K: ChannelPort, B: BoardName + PartsName> {
     channels: Vec<LockedChannel<K, B>>,
     locks: Vec<Mutex<LockedChannel<K, B>>>,
     ghost board: { arc_value marks ≡ B.board },
-    ghost no_port: { room.items ≡ [] },
     ghost no_seat: { seats.items ≡ [] },
     ghost ports: { 8 ≤ vec_capacity room },
     ghost eight: { 8 ≤ vec_capacity seats },

@@ -11,8 +11,7 @@ use nv_workers::BoardName;
 use save_device::SaveDevice;
 use std::sync::Wait;
 use std::time::Clock;
-use worker_gate::{Gate, Turn};
-use worker_loops::{Ended, Shift, Working, give_way, take_turns};
+use worker_turns::{Ended, Gate, Shift, Turn, Working, give_way, take_turns};
 
 // How a worker goes on behind its turn.
 fn going_on(turn: ChannelTurn) -> Working

@@ -33,7 +33,7 @@ use Rattle.channel_log.specs.Log.{LogNote, Told, log_tells}
 use Rattle.channel_part.specs.Stands.{PortStands}
 use Rattle.module_core.specs.Fronts.{FrontMatches, setup_in}
 use Rattle.module_core.specs.Parts.{FitTogether}
-use Rattle.module_core.specs.Saving.{IsOfLines}
+use Rattle.module_saves.specs.Saving.{IsOfLines}
 use Rattle.module_core.specs.Stands.{IsCarried, Matches, setup_of}
 use Rattle.module_core.specs.declared.front.Front.{Front}
 use Rattle.module_core.specs.declared.module.Module.{Module}

@@ -2,3 +2,4 @@
 pub mod Lent
 -- the pieces of a module, and the machine for which it and they stand
 pub mod Gathered
+pub mod SameSplit

@@ -1,5 +1,5 @@
 // The front of a module whose channels are behind locks of their own.
-ghost use Rattle.module_core.specs.Saving.{IsOfLines};
+ghost use Rattle.module_saves.specs.Saving.{IsOfLines};
 
 use energy_budget::Costs;
 use module_core::Front;

@@ -70,15 +70,14 @@ pub fn write_on<K: ChannelPort>(
         return Err(WriteRefusal::NoSuchLine);
     }
     let need = front.costs.need(front.out + 1);
-    match front.front.write_refusal(part.is_full(), need) {
-        Some(refusal) => Err(refusal),
-        None => {
+    match front.front.accept_write(part.is_full(), need) {
+        Ok(accepted) => {
             let place = part.place(write.line);
-            let accepted = front.front.accept();
             part.write(accepted.number, write, place);
             front.out += 1;
             Ok(accepted)
         }
+        Err(refusal) => Err(refusal),
     }
 }
 
@@ -113,11 +112,11 @@ pub fn read_on<K: ChannelPort>(
     if line >= front.lines {
         return Err(ReadRefusal::NoSuchLine);
     }
-    match front.front.read_refusal(part.is_full_of_reads()) {
-        Some(refusal) => Err(refusal),
-        None => {
+    match front.front.admit_read(part.is_full_of_reads()) {
+        Ok(at) => {
             let place = part.place(line);
-            Ok(part.read(line, place, front.front.accepted()))
+            Ok(part.read(line, place, at))
         }
+        Err(refusal) => Err(refusal),
     }
 }

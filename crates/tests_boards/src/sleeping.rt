@@ -16,7 +16,7 @@ use std::process::Abort;
 use std::sync::Wait;
 use std::sync::atomic::{AtomicU64, Ordering};
 use std::time::{Clock, Duration};
-use worker_loops::give_way;
+use worker_turns::give_way;
 
 /// A clock that stands still. It keeps how often it was asked to sleep, and how long last.
 #[derive(Drop)]

@@ -17,7 +17,7 @@ use std::sync::atomic::{AtomicBool, AtomicU64, Ordering};
 use std::thread;
 use std::thread::Threads;
 use std::time::{Clock, Duration};
-use worker_gate::{Gate, Turn};
+use worker_turns::{Gate, Turn};
 
 // Tells each drain the same, and counts how often it was asked.
 #[derive(Drop)]

@@ -1,6 +1,6 @@
 // What a check tells of a trace.
 use command_trace::{
-    Form, TraceReader, check_trace, diagnose, form_of, list_commands, list_issued, tallies,
+    Form, Source, TraceReader, check_trace, diagnose, form_of, list_commands, list_issued, tallies,
 };
 use ddr4_timing::profiles::TINY;
 use ddr4_timing::timing::{Checked, Geometry, ProfileError};
@@ -112,5 +112,43 @@ fn the_last_bank_of_a_trace(rt: HostRuntime) -> anyhow::Result<()> {
     ] {
         assert_eq!(rt; line_of_a_fault(rt.alloc(), text)?, line, "{text}");
     }
+    Ok(())
+}
+
+// A lawful channel, one with a read too soon and then one of a closed bank, and one with the latter alone.
+const APART: &str = "0 0 ACT 0 0 0 1
+3 0 ACT 0 0 0 1
+7 0 ACT 0 0 0 1
+3 15 RD 0 0 0 3
+7 16 RD 0 1 0 3
+3 20 RD 0 1 0 2
+0 16 RD 0 0 0 2
+";
+
+const APART_TOLD: &str = "0 lawful
+3 fault 3, ACT to RD, same bank: at least tRCD = 16, here 15; line 2: 0 ACT 0 0 0 1; line 4: 15 RD 0 0 0 3
+3 breaks 2, RD wants its bank open; line 6: 20 RD 0 1 0 2; the first of 1
+3 breaks 3, ACT to RD, same bank: at least tRCD = 16, here 15; line 2: 0 ACT 0 0 0 1; line 4: 15 RD 0 0 0 3; the first of 1
+7 fault 2, RD wants its bank open; line 5: 16 RD 0 1 0 3
+7 breaks 2, RD wants its bank open; line 5: 16 RD 0 1 0 3; the first of 1
+";
+
+#[test]
+fn faults_of_channels_apart(rt: HostRuntime) -> anyhow::Result<()> {
+    let rules = TINY.check_commands(&MOST)?;
+    let source = Source::Bytes(APART.as_bytes().to_vec(rt.alloc())?);
+    let form = source.form(&rt, false)?;
+    let check = source.check(&rt, form, &rules)?;
+    let mut said = format!(in rt.alloc(); "")?;
+    for channel in [0, 3, 7] {
+        match source.diagnosis(&rt, form, &rules, &check, channel)? {
+            Some(found) => writeln!(said, "{channel} fault {found}")?,
+            None => writeln!(said, "{channel} lawful")?,
+        }
+        for tally in &source.tallies(&rt, form, &rules, channel)? {
+            writeln!(said, "{channel} breaks {tally}")?;
+        }
+    }
+    assert_eq!(rt; said.as_str(), APART_TOLD);
     Ok(())
 }

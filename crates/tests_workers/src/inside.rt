@@ -2,7 +2,7 @@
 use std::sync::atomic::{AtomicBool, AtomicU64, Ordering};
 use std::thread;
 use std::time::{Clock, Duration};
-use worker_gate::{Gate, Turn};
+use worker_turns::{Gate, Turn};
 
 /// How often a gate is asked before it lets a worker go: it waits for what doesn't come.
 pub(crate) const LIMIT: u64 = 10_000;

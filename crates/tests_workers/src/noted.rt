@@ -5,7 +5,7 @@ use energy_budget::{Costs, Dark, Energy};
 use line_memory::{Line, Write};
 use std::marker::Model;
 use std::sync::atomic::{AtomicBool, AtomicU64, Ordering};
-use worker_gate::{Gate, Turn};
+use worker_turns::{Gate, Turn};
 
 /// How often each of two ports was asked to issue commands.
 #[derive(Drop)]

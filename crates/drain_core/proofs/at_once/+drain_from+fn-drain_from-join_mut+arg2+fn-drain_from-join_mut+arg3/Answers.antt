@@ -2,7 +2,7 @@ use Rattle.std.proofs.Common.{rules}
 use Rattle.std.proofs.lemmas.List.{map-append}
 use Rattle.drain_core.proofs.JoinedReports.{reports_join}
 use Rattle.drain_core.proofs.JoinedWaits.{waits_join}
-use Rattle.worker_gate.specs.Waiting.{AwaitsTurn}
+use Rattle.worker_turns.specs.Waiting.{AwaitsTurn}
 use Rattle.drain_core.proofs.at_once.+drain_from+fn-drain_from-join_mut+arg2+fn-drain_from-join_mut+arg3.Goals as goal
 
 -- what is done to each half is done to all

@@ -9,17 +9,17 @@ use Rattle.split_machine.specs.Telling.{AreOwn}
 use Rattle.split_module.proofs.Lent.{read, tells_read}
 use Rattle.split_module.proofs.lending.read_on.Goals as goal
 
-pub returns-in-Some-clause-reads : goal.returns-in-Some-clause-reads
-returns-in-Some-clause-reads g c = λ shape m logs log s of seen stands on.
+pub returns-in-Err-clause-reads : goal.returns-in-Err-clause-reads
+returns-in-Err-clause-reads g c = λ shape m logs log s of seen stands on.
     let L = g.K.ChannelPort in
     let front = c.args.front.now in
     let within : c.args.line < front.lines = omega arith in
     let least : c.args.line < shape.lines = subst (λ k. c.args.line < k) s.lines within in
     let full = tells_read L front c.args.part.now c.args.line c.is_full_of_reads.result c.is_full_of_reads.ensures shape m logs log s of seen (on least) in
-    (sym (c.read_refusal.ensures.refusal shape m c.args.line s.matches least full) ∙ c.in-Some.is, refl)
+    (c.in-Err.ensures.refusal shape m c.args.line s.matches least full, refl)
 
-pub returns-in-None-clause-reads : goal.returns-in-None-clause-reads
-returns-in-None-clause-reads g c = λ shape m logs log s of seen stands on.
+pub returns-in-Ok-clause-reads : goal.returns-in-Ok-clause-reads
+returns-in-Ok-clause-reads g c = λ shape m logs log s of seen stands on.
     let L = g.K.ChannelPort in
     let front = c.args.front.now in
     let part = c.args.part.now in
@@ -34,13 +34,13 @@ returns-in-None-clause-reads g c = λ shape m logs log s of seen stands on.
       given = subst (λ n. All (λ t. t.channel ≡ n) (L.view later.port).waits.given) here (g.met.K.ChannelPort.own_tickets later.port);
     } in
     let bytes = line_of (after (base_of_life m.life) (writes_of (log_tells log).written)) c.args.line in
-    let got = subst (λ k. IsGot bytes c.args.line k part.channel c.read.result (L.view part.port).waits (L.view later.port).waits) c.accepted.ensures.is (c.read.ensures.got part.channel (base_of_life m.life) log stands) in
+    let got = subst (λ k. IsGot bytes c.args.line k part.channel c.read.result (L.view part.port).waits (L.view later.port).waits) c.in-Ok.ensures.at (c.read.ensures.got part.channel (base_of_life m.life) log stands) in
     read L front part later c.args.line c.read.result c.read.ensures.writes shape m logs log s of seen (on least) own got
-    (sym (c.read_refusal.ensures.refusal shape m c.args.line s.matches least full) ∙ c.in-None.is)
+    (c.in-Ok.ensures.admitted shape m c.args.line s.matches least full)
 
-pub returns-in-None-clause-got : goal.returns-in-None-clause-got
-returns-in-None-clause-got g c = λ base log stands.
+pub returns-in-Ok-clause-got : goal.returns-in-Ok-clause-got
+returns-in-Ok-clause-got g c = λ base log stands.
     let L = g.K.ChannelPort in
     let part = c.args.part.now in
     let bytes = line_of (after base (writes_of (log_tells log).written)) c.args.line in
-    subst (λ k. IsGot bytes c.args.line k part.channel c.read.result (L.view part.port).waits (L.view c.read.new.self.port).waits) c.accepted.ensures.is (c.read.ensures.got part.channel base log stands)
+    subst (λ k. IsGot bytes c.args.line k part.channel c.read.result (L.view part.port).waits (L.view c.read.new.self.port).waits) c.in-Ok.ensures.at (c.read.ensures.got part.channel base log stands)

@@ -3,13 +3,13 @@ use Rattle.arm_state.specs.Modes.{is_armed, is_backed, repeats_in}
 use Rattle.arm_state.specs.Moves.{mode_after}
 use Rattle.arm_state.specs.declared.moves.Move.TheVariants.{FailSave}
 use Rattle.module_core.specs.Fronts.{setup_in}
-use Rattle.module_core.specs.Saves.{StepTold}
-use Rattle.module_core.specs.Saving.{IsDone, IsFaultOf, store_after}
-use Rattle.module_core.specs.declared.saves.StepFault.{StepFault}
+use Rattle.module_saves.specs.Saves.{StepTold}
+use Rattle.module_saves.specs.Saving.{IsDone, IsFaultOf, store_after}
+use Rattle.module_saves.specs.declared.saves.StepFault.{StepFault}
 use Rattle.nv_machine.specs.Moves.{advanced, finished, may_repeat, repeated, torn}
 use Rattle.slot_store.specs.Runs.{failures_of}
 use Rattle.module_core.proofs.Common.{Bool, DeviceState, Err, Mode, Newest, None, Ok, Option, ReachesStore, RunningSave, AreSameSave, SaveRun, Setup, Some, Step, Store, SyncOpen, after_step, ap, arith, false, next_of, refl, rules, saved_in, step_failed, stepped, subst, sym, true, ℕ, ◌∙◌, ◌≡◌}
-use Rattle.module_core.proofs.RunningSaves.{counts_as, failed_none, holds_runs, stepped_is, the_run}
+use Rattle.module_saves.proofs.RunningSaves.{counts_as, failed_none, holds_runs, stepped_is, the_run}
 use Rattle.module_core.proofs.front.Front.make_step.Goals as goal
 
 -- the same test, of the front's numbers and of the machine's

@@ -1,5 +1,5 @@
 use Rattle.channel_port.specs.Draining.{Paid}
-use Rattle.module_core.specs.Closing.{HasDrained}
+use Rattle.module_core.specs.Drained.{HasDrained}
 use Rattle.module_core.proofs.Common.{◌≡◌, Ok, assembly, refl, subst, sym}
 use Rattle.module_core.proofs.DrainedModules.{all_paid, closes_dark, closes_on}
 use Rattle.module_core.proofs.WhereDrained.{on_err}

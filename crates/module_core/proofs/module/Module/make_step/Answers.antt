@@ -1,5 +1,5 @@
 use Rattle.channel_port.specs.Waits.{AllBelow, Waits}
-use Rattle.module_core.specs.Saving.{IsOfLines}
+use Rattle.module_saves.specs.Saving.{IsOfLines}
 use Rattle.module_core.specs.Fronts.{FrontMatches}
 use Rattle.module_core.specs.declared.front.Front.{Front}
 use Rattle.module_core.specs.declared.opening.LifeTerms.{LifeTerms}

@@ -2,7 +2,7 @@ use Rattle.std.proofs.lemmas.List.Elements.{All-drop}
 use Rattle.channel_port.specs.Draining.{in_turn}
 use Rattle.channel_port.specs.Waits.{AllBelow}
 use Rattle.channel_set.specs.Draining.{DrainsEach}
-use Rattle.module_core.specs.Saving.{IsOfLines}
+use Rattle.module_saves.specs.Saving.{IsOfLines}
 use Rattle.module_core.proofs.WhereDrained.{on_ok, where_drained}
 use Rattle.module_core.proofs.Common.{◌<◌, ◌∙◌, ◌≡◌, ChannelsView, Shape, Waiting, ap, assembly, false, refl, subst, sym, true, view_of}
 use Rattle.module_core.proofs.module.Module.power_loss.Goals as goal

@@ -1,9 +1,9 @@
 use Rattle.std.proofs.lemmas.List.Elements.{All-drop}
 use Rattle.channel_port.specs.Draining.{at_once}
 use Rattle.channel_port.specs.Waits.{AllBelow}
-use Rattle.worker_gate.specs.Waiting.{AreAwaited}
+use Rattle.worker_turns.specs.Waiting.{AreAwaited}
 use Rattle.channel_set.specs.Draining.{DrainsEach}
-use Rattle.module_core.specs.Saving.{IsOfLines}
+use Rattle.module_saves.specs.Saving.{IsOfLines}
 use Rattle.module_core.proofs.WhereDrained.{on_ok, where_drained}
 use Rattle.module_core.proofs.Common.{◌<◌, ◌∙◌, ◌≡◌, ChannelsView, Shape, Waiting, ap, assembly, false, length, refl, subst, sym, true, view_of}
 use Rattle.module_core.proofs.module.Module.power_loss_with.Goals as goal

@@ -1,9 +1,8 @@
 use Rattle.std.proofs.Common.{Option}
-use Rattle.std.proofs.lemmas.List.FromFn.{length-map-range_with_len}
 use Rattle.channel_set.proofs.Settling.{settled}
 use Rattle.slot_store.specs.Runs.{tried_of}
 use Rattle.slot_store.specs.Steps.{reach_of}
-use Rattle.module_core.specs.Saves.{IsReadyFor, StoreMoves}
+use Rattle.module_saves.specs.Saves.{IsReadyFor, StoreMoves}
 use Rattle.module_core.specs.Stands.{saved_after}
 use Rattle.nv_machine.proofs.Guarded.{memory_made}
 use Rattle.nv_machine.proofs.Leaving.{left_within}
@@ -14,16 +13,16 @@ use Rattle.nv_machine.specs.declared.events.Reply.TheVariants as replies
 use Rattle.nv_machine.specs.declared.events.StepReply.TheVariants as step
 use Rattle.module_core.proofs.Common.{[], if◌then◌else◌, ℕ, ◌+◌, ◌∙◌, ◌∷◌, ◌≡◌, ◌≤◌, ◌⊎◌, Bool, CallKind, DeviceState, ForSome, Gauge, GivesPage, Holds, IsAmong, List, Machine, MakesCalls, Matches, NoneBelow, RunningSave, SaveRun, Setup, Step, Waiting, Waits, WaitsFrom, World, ap, assembly, base_of_life, false, hold_of, is_low, length, lines_of_module, next_of, plan_of, read_as, refl, restored, rules, setup_of, start_of_life, step_call, subst, sym, true, view_of, weaker}
 use Rattle.module_core.proofs.Applying.{alone, asked, issues_none, same_lines, unissued, unmoved}
-use Rattle.module_core.proofs.Knowing.{holds_moved}
-use Rattle.module_core.proofs.RunningSaves.{none_runs, save_runs, the_run}
+use Rattle.module_saves.proofs.Knowing.{holds_moved}
+use Rattle.module_saves.proofs.RunningSaves.{none_runs, save_runs, the_run}
 use Rattle.module_core.proofs.SavePages.{gives, same_call, whole_step}
 use Rattle.module_core.proofs.module.Module.save_step.Goals as goal
 
-pub page_for-requires : goal.page_for-requires
-page_for-requires g c =
+pub page_of_step-page-requires : goal.page_of_step-page-requires
+page_of_step-page-requires g c =
     let L = g.K.ChannelPort in let old = c.args.self.now in let now = c.take_reading.new.self in
     let same : lines_of_module L now ≡ lines_of_module L old = same_lines L old now c.take_reading.ensures.setup in
-    rw length-map-range_with_len (subst (λ (lines : ℕ). reach_of c.in-Some.step ≤ lines) (sym same) (c.in-Some.ensures.place (lines_of_module L old) old.running c.in-Some.step refl))
+    subst (λ (lines : ℕ). reach_of c.in-Some.step ≤ lines) (sym same) (c.in-Some.ensures.place (lines_of_module L old) old.running c.in-Some.step refl)
 
 pub returns-in_default-clause-answers : goal.returns-in_default-clause-answers
 returns-in_default-clause-answers g c = search (rules, unmoved, none_runs)
@@ -70,10 +69,10 @@ returns-clause-answers g c = λ m stands.
     settled L now.channels (base_of_life m.life) (start_of_life m.life) m.life.writes h'.carried.carries count g.met.K.ChannelPort.settled
     (subst (λ (w : List Waiting). NoneBelow count w) (sym writes) none) (subst (λ (w : List Waiting). WaitsFrom count end w) (sym writes) all)
     ∙ sym (memory_made m save stands.guarded s.1) in
-    let page : GivesPage save.made.memory save.next c.page_for.result.now =
-    gives array save.made.memory m count end save.next c.page_for.result.now (subst (λ (x : Step). GivesPage array x c.page_for.result.now) (sym s.2) c.page_for.ensures) ready
+    let page : GivesPage save.made.memory save.next c.page_of_step-page.result =
+    gives array save.made.memory m count end save.next c.page_of_step-page.result (subst (λ (x : Step). GivesPage array x c.page_of_step-page.result) (sym s.2) c.page_of_step-page.ensures) ready
     (subst (λ (o : Option RunningSave). ForSome (hold_of o) (λ k. WaitsFrom k end m.waits.writes)) s.1 h.carried.held) pages in
-    let ready' : IsReadyFor (lines_of_module L now) m.store save now.front.saves c.page_for.result.now device = record { runs = s.1; gives = page; knows = h'.front.knows; holds = subst (λ (k : ℕ). Holds k m.store now.front.saves.saving device) (sym same) holds' } in
+    let ready' : IsReadyFor (lines_of_module L now) m.store save now.front.saves c.page_of_step-page.result device = record { runs = s.1; gives = page; knows = h'.front.knows; holds = subst (λ (k : ℕ). Holds k m.store now.front.saves.saving device) (sym same) holds' } in
     let made = c.make_step.ensures.made read save ready' h' in let n : Machine = made.later in
     let the = the_run (lines_of_module L now) m.store device save m.store.saving now.front.saves.saving s.1 ready'.holds in let run : SaveRun = the.0 in
     let call_is : step_call (plan_of run).closed (next_of run) ≡ step_call m.store.closed save.next =

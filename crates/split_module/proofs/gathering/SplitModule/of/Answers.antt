@@ -1,6 +1,6 @@
 -- A module is taken apart.
 use Rattle.std.proofs.Common.{rules, subst, sym}
-use Rattle.module_core.specs.Saving.{IsOfLines}
+use Rattle.module_saves.specs.Saving.{IsOfLines}
 use Rattle.split_module.proofs.Gathered.{fits, stands_split}
 use Rattle.split_module.proofs.gathering.SplitModule.of.Goals as goal
 

@@ -1,0 +1,10 @@
+pub mod Common
+pub mod StoreSteps
+pub mod Knowing
+pub mod RunningSaves
+pub mod SteppedSaves
+pub mod ClosingPayments
+pub mod ClosingSteps
+pub mod ClosingStores
+pub mod ClosingSaves
+pub mod SameSaves

@@ -1,0 +1,4 @@
+pub mod Device
+pub mod Saving
+pub mod Saves
+pub mod Closing

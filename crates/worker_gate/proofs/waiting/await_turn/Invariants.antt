@@ -1,6 +1,0 @@
-use Rattle.std.proofs.Common.{◌<◌, ℕ}
-use Rattle.worker_gate.specs.declared.Turn.TheVariants.{Hold}
-use Rattle.worker_gate.proofs.waiting.await_turn.Given as goal
-
-abbrev pub invariant-loop-turn : goal.invariant-loop-turn
-invariant-loop-turn g l = (earlier : ℕ) → earlier < l.turn → g.G.Gate.says l.fn.worker earlier Hold l.fn.gate

@@ -1,2 +1,0 @@
-pub mod Lookouts
-pub mod Shifts

@@ -1,0 +1,6 @@
+use Rattle.std.proofs.Common.{◌<◌, ℕ}
+use Rattle.worker_turns.specs.declared.Turn.TheVariants.{Hold}
+use Rattle.worker_turns.proofs.waiting.await_turn.Given as goal
+
+abbrev pub invariant-loop-turn : goal.invariant-loop-turn
+invariant-loop-turn g l = (earlier : ℕ) → earlier < l.turn → g.G.Gate.says l.fn.worker earlier Hold l.fn.gate

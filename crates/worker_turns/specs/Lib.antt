@@ -1,0 +1,4 @@
+pub mod Waiting
+pub mod Inside
+pub mod Lookouts
+pub mod Shifts
