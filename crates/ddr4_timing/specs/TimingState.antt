@@ -98,6 +98,10 @@ TellsRows t g m x answer = (list : List Stamped) → Keeps t g m list → (IsTru
 abbrev pub TellsLeastClock : Timing → Geometry → TimingState → Command → ℕ → Type 0
 TellsLeastClock t g m x answer = (list : List Stamped) → Keeps t g m list → answer ≡ least_clock t list x
 
+-- that of a bank's command of a kind, whatever row or column it names,
+abbrev pub TellsClockTo : Timing → Geometry → TimingState → BankCommand → BankAddress → ℕ → Type 0
+TellsClockTo t g m kind at answer = (number : ℕ) → TellsLeastClock t g m (command_to kind at number) answer
+
 -- whether it may come next,
 abbrev pub TellsNext : Timing → Geometry → TimingState → Command → ℕ → Bool → Type 0
 TellsNext t g m x clock answer =

@@ -1,7 +1,7 @@
 // What a list of commands leaves to the next one, in a constant size.
 ghost use Rattle.std.specs.Prelude.{◌≡◌, ◌<◌, ◌^◌, ℕ, List, [], IsTrue};
 ghost use Rattle.ddr4_timing.specs.Lawful.{IsInGeometry, open_row};
-ghost use Rattle.ddr4_timing.specs.Command.{command_to, rank_of};
+ghost use Rattle.ddr4_timing.specs.Command.{rank_of};
 ghost use Rattle.ddr4_timing.specs.Places.{HasBank};
 ghost use Rattle.ddr4_timing.specs.declared.command.Stamped.{Stamped};
 
@@ -25,7 +25,7 @@ pub struct TimingState {
 
 impl TimingState {
     ghost use Rattle.ddr4_timing.specs.Limits.{AreInLimits, HasFewBanks};
-    ghost use Rattle.ddr4_timing.specs.TimingState.{ChannelTakes, IsBankClock, IsGroupFloor, IsKeptAfter, IsStateAfter, IsRankOf, Keeps, StandsFor, TellsClosed, TellsFit, TellsLawful, TellsLeastClock, TellsNext, TellsRows};
+    ghost use Rattle.ddr4_timing.specs.TimingState.{ChannelTakes, IsBankClock, IsGroupFloor, IsKeptAfter, IsStateAfter, IsRankOf, Keeps, StandsFor, TellsClockTo, TellsClosed, TellsFit, TellsLawful, TellsLeastClock, TellsNext, TellsRows};
 
     /// Before any command.
     pub fn new(t: &Timing, g: &Geometry) -> TimingState
@@ -178,7 +178,7 @@ impl TimingState {
     fn clock_to(&self, t: &Timing, g: &Geometry, at: BankAddress, kind: BankCommand) -> u64
         requires few { HasFewBanks g.now }
         requires bank { HasBank g.now at }
-        ensures { (number : ℕ) → TellsLeastClock t.now g.now self.now (command_to kind at number) result }
+        ensures { TellsClockTo t.now g.now self.now kind at result }
     {
         self.group_floor(t, g, at.rank, at.group, kind)
             .max(self.bank_clock(g, at, kind))

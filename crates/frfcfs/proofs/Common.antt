@@ -29,4 +29,4 @@ unfoldable pub use Rattle.frfcfs.specs.Margin.{above, last_clock}
 pub use Rattle.frfcfs.specs.Next.{HasWork, IsNext, IsNextIn, ServesInTurn}
 pub use Rattle.frfcfs.specs.Queue.{AreFirsts, IsFirstAt, KeepsRequests, IsOldestOf, IsWaiting, MarksOldest, Waiting, held_by, is_held, marked_at, numbered_from}
 pub use Rattle.frfcfs.specs.Requests.{AreInOrder, IsEligible, IsFirst, act_of, column_of, pre_of}
-pub use Rattle.frfcfs.specs.Search.{AreBest, AreBestInTurn, AreFound, AreHits, AreMarks, HasHit, IsBest, IsBetter, IsEnd, IsRankNext, IsRankNextAt, IsSoonerOf, Takes, limit_of}
+pub use Rattle.frfcfs.specs.Search.{AreAllBestInTurn, AreBest, AreBestInTurn, AreFound, AreHits, AreMarks, HasHit, IsBest, IsBetter, IsEnd, IsRankNext, IsRankNextAt, IsSoonerOf, Takes, limit_of}

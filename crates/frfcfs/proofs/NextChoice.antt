@@ -1,12 +1,8 @@
 -- The first of the ranks' and the requests' commands is the next choice.
 use Rattle.std.proofs.Common.{◌≡◌, ℕ, ◌<◌, ◌≤◌, ◌^◌, min, List, Some, None, arith, refl, length, slice_get}
 use Rattle.std.proofs.lemmas.Option.{slice_get_within}
-use Rattle.frfcfs.proofs.Common.{AreBest, AreBestInTurn, AreInOrder, Best, Bests, Checked, Command, HasNoCandidate, IsCandidate, IsBest, IsEligible, IsLawful, IsLeast, IsNextIn, IsNotAfter, IsRankNext, MayHave, Next, OfColumn, OfRank, OfRow, OffersRank, Pending, ServesInTurn, Stamped, Takes, Turn, WantsColumn, WantsRow, limit_of, with_command}
+use Rattle.frfcfs.proofs.Common.{AreAllBestInTurn, AreBest, AreBestInTurn, AreInOrder, Best, Bests, Checked, Command, HasNoCandidate, IsCandidate, IsBest, IsEligible, IsLawful, IsLeast, IsNextIn, IsNotAfter, IsRankNext, MayHave, Next, OfColumn, OfRank, OfRow, OffersRank, Pending, ServesInTurn, Stamped, Takes, Turn, WantsColumn, WantsRow, limit_of, with_command}
 use Rattle.frfcfs.proofs.Lists.{order_upto}
-
--- the best of each class among all requests
-abbrev pub AreAllBest : Checked → List Stamped → List Pending → ℕ → ℕ → Bests → Type 0
-AreAllBest c list pending now last bests = AreBestInTurn c list pending now last (limit_of last) (length pending) bests
 
 -- a request has its command of a class no sooner than the best one of it
 after_best : (Wants : Pending → Command → Type 0) (c : Checked) (list : List Stamped) (pending : List Pending) (now last k : ℕ) (best : Best) (p : Pending) (cmd : Command) →
@@ -15,7 +11,7 @@ after_best Wants c list pending now last k best p cmd is from until (i, el, have
 
 -- its ACT or PRE too, also where that isn't looked for
 after_row : (c : Checked) (list : List Stamped) (pending : List Pending) (now last k : ℕ) (bests : Bests) (p : Pending) (cmd : Command) →
-    AreAllBest c list pending now last bests → now ≤ k → k ≤ last → ((i : ℕ) × IsEligible pending i p × MayHave c list k p cmd × WantsRow list pending p cmd) → (k < limit_of last) × (bests.row.clock ≤ k)
+    AreAllBestInTurn c list pending now last bests → now ≤ k → k ≤ last → ((i : ℕ) × IsEligible pending i p × MayHave c list k p cmd × WantsRow list pending p cmd) → (k < limit_of last) × (bests.row.clock ≤ k)
 after_row c list pending now last k bests p cmd best from until (i, el, have, wants) = best.later i k (slice_get_within pending i p el.here) from (p, cmd, until, el, have, wants)
 
 -- no rank has an offer at a clock
@@ -34,7 +30,7 @@ best_in_turn c list pending now last limit end bests best = record {
 }
 
 -- no clock before all of them has a candidate
-none_before : (c : Checked) (list : List Stamped) (pending : List Pending) (now last k : ℕ) (bests : Bests) → AreAllBest c list pending now last bests → NoRank c list k →
+none_before : (c : Checked) (list : List Stamped) (pending : List Pending) (now last k : ℕ) (bests : Bests) → AreAllBestInTurn c list pending now last bests → NoRank c list k →
     now ≤ k → k ≤ last → (k < limit_of last → (k < bests.column.clock) × (k < bests.row.clock)) → HasNoCandidate c list pending k
 none_before c list pending now last k bests best ranks from until before (OfRank r) cmd h = ranks r cmd h
 none_before c list pending now last k bests best ranks from until before (OfColumn p) cmd h =
@@ -43,7 +39,7 @@ none_before c list pending now last k bests best ranks from until before (OfRow 
     let f = after_row c list pending now last k bests p cmd best from until h in let g = before f.0 in absurd (omega (arith, g, f.1))
 
 -- the choice at a clock before which no rank has an offer, and no request its command
-at_first : (c : Checked) (list : List Stamped) (pending : List Pending) (now last : ℕ) (bests : Bests) (next : Next) (turn : Turn) → AreAllBest c list pending now last bests → ((k : ℕ) → now ≤ k → k < next.clock → NoRank c list k) →
+at_first : (c : Checked) (list : List Stamped) (pending : List Pending) (now last : ℕ) (bests : Bests) (next : Next) (turn : Turn) → AreAllBestInTurn c list pending now last bests → ((k : ℕ) → now ≤ k → k < next.clock → NoRank c list k) →
     now ≤ next.clock → next.clock ≤ min (min bests.column.clock bests.row.clock) last → IsLeast c list pending next.clock turn next.cmd → ServesInTurn pending turn next.serves → IsNextIn c list pending now last (Some next)
 at_first c list pending now last bests next turn best ranks from until choice serves = record {
   from = from;
@@ -55,7 +51,7 @@ at_first c list pending now last bests next turn best ranks from until choice se
 }
 
 -- a rank's command
-pub rank_next : (c : Checked) (list : List Stamped) (pending : List Pending) (now last until : ℕ) (bests : Bests) (next : Next) → AreAllBest c list pending now last bests → IsRankNext c list now until 0 c.geometry.ranks (Some next) →
+pub rank_next : (c : Checked) (list : List Stamped) (pending : List Pending) (now last until : ℕ) (bests : Bests) (next : Next) → AreAllBestInTurn c list pending now last bests → IsRankNext c list now until 0 c.geometry.ranks (Some next) →
     until ≡ min (min bests.column.clock bests.row.clock) last → now ≤ next.clock → next.clock ≤ until → next.serves ≡ None → IsNextIn c list pending now last (Some next)
 rank_next c list pending now last until bests next best is at from le serves =
     at_first c list pending now last bests next (OfRank is.rank) best (λ k f less r cmd h. let first = (is.first r k cmd (omega arith) h.within f (omega (arith, le, less)) h).0 in absurd (omega (arith, first, less)))
@@ -66,7 +62,7 @@ rank_next c list pending now last until bests next best is at from le serves =
     least other cmd h = record { class = omega arith; number = λ e. absurd (omega (arith, e)) }
 
 -- a request's command where no rank has an offer: of the requests only the best one of a class may have its command at the same clock
-request_next : (c : Checked) (list : List Stamped) (pending : List Pending) (now last until : ℕ) (bests : Bests) (next : Next) (turn : Turn) → AreAllBest c list pending now last bests → IsRankNext c list now until 0 c.geometry.ranks None →
+request_next : (c : Checked) (list : List Stamped) (pending : List Pending) (now last until : ℕ) (bests : Bests) (next : Next) (turn : Turn) → AreAllBestInTurn c list pending now last bests → IsRankNext c list now until 0 c.geometry.ranks None →
     until ≡ min (min bests.column.clock bests.row.clock) last → now ≤ next.clock → next.clock ≤ min (min bests.column.clock bests.row.clock) last → IsCandidate c list pending next.clock turn next.cmd → ServesInTurn pending turn next.serves →
     ((p : Pending) (i : ℕ) → IsEligible pending i p → next.clock ≡ bests.column.clock → bests.column.index ≤ i → IsNotAfter turn (OfColumn p)) →
     ((p : Pending) (i : ℕ) → IsEligible pending i p → next.clock ≡ bests.row.clock → (bests.row.clock < bests.column.clock → bests.row.index ≤ i) → IsNotAfter turn (OfRow p)) → IsNextIn c list pending now last (Some next)
@@ -83,7 +79,7 @@ request_next c list pending now last until bests next turn best none is from le 
         rows p h.0 h.1 same (λ ahead. (after_best (WantsRow list pending) c list pending now last next.clock bests.row p cmd (best.row ahead) from (omega (arith, le)) h).2 same)
 
 -- its RD or WR
-pub column_next : (c : Checked) (list : List Stamped) (pending : List Pending) (now last until : ℕ) (bests : Bests) (next : Next) → AreInOrder pending → AreAllBest c list pending now last bests → IsRankNext c list now until 0 c.geometry.ranks None →
+pub column_next : (c : Checked) (list : List Stamped) (pending : List Pending) (now last until : ℕ) (bests : Bests) (next : Next) → AreInOrder pending → AreAllBestInTurn c list pending now last bests → IsRankNext c list now until 0 c.geometry.ranks None →
     until ≡ min (min bests.column.clock bests.row.clock) last → now ≤ bests.column.clock → bests.column.clock < limit_of last → bests.column.clock ≤ bests.row.clock → next.clock ≡ bests.column.clock → next.serves ≡ Some bests.column.index →
     ((request : Pending) (cmd : Command) → slice_get pending bests.column.index ≡ Some request → WantsColumn list request cmd → cmd ≡ next.cmd) → IsNextIn c list pending now last (Some next)
 column_next c list pending now last until bests next order best none is from early before at serves one =
@@ -93,7 +89,7 @@ column_next c list pending now last until bests next order best none is from ear
     (λ p i own _ younger. record { class = omega arith; number = λ _. order_upto pending bests.column.index i request p order el.here own.here younger }) (λ p i own _ younger. record { class = omega arith; number = λ e. absurd (omega (arith, e)) })
 
 -- its ACT or PRE
-pub row_next : (c : Checked) (list : List Stamped) (pending : List Pending) (now last until : ℕ) (bests : Bests) (next : Next) → AreInOrder pending → AreAllBest c list pending now last bests → IsRankNext c list now until 0 c.geometry.ranks None →
+pub row_next : (c : Checked) (list : List Stamped) (pending : List Pending) (now last until : ℕ) (bests : Bests) (next : Next) → AreInOrder pending → AreAllBestInTurn c list pending now last bests → IsRankNext c list now until 0 c.geometry.ranks None →
     until ≡ min (min bests.column.clock bests.row.clock) last → now ≤ bests.row.clock → bests.row.clock < limit_of last → bests.row.clock < bests.column.clock → next.clock ≡ bests.row.clock → next.serves ≡ None →
     ((request : Pending) (cmd : Command) → slice_get pending bests.row.index ≡ Some request → WantsRow list pending request cmd → cmd ≡ next.cmd) → IsNextIn c list pending now last (Some next)
 row_next c list pending now last until bests next order best none is from early ahead at serves one =
@@ -103,7 +99,7 @@ row_next c list pending now last until bests next order best none is from early 
     (λ p i own same _. absurd (omega (arith, same, at, ahead))) (λ p i own _ younger. record { class = omega arith; number = λ _. order_upto pending bests.row.index i request p order el.here own.here (younger ahead) })
 
 -- none
-pub none_next : (c : Checked) (list : List Stamped) (pending : List Pending) (now last until : ℕ) (bests : Bests) → AreAllBest c list pending now last bests → IsRankNext c list now until 0 c.geometry.ranks None →
+pub none_next : (c : Checked) (list : List Stamped) (pending : List Pending) (now last until : ℕ) (bests : Bests) → AreAllBestInTurn c list pending now last bests → IsRankNext c list now until 0 c.geometry.ranks None →
     until ≡ min (min bests.column.clock bests.row.clock) last → last < 2 ^ 64 → limit_of last ≤ bests.column.clock → limit_of last ≤ bests.row.clock → IsNextIn c list pending now last None
 none_next c list pending now last until bests best none is small column row k from le =
     none_before c list pending now last k bests best (no_rank c list now until k none from (omega (arith, is, le, small, column, row))) from le (λ l. omega (arith, l, column, row))

@@ -58,13 +58,21 @@ pub record AreSoonest (c : Checked) (list : List Stamped) (pending : List Pendin
 abbrev pub SoonestColumn : Checked → List Stamped → List Pending → ℕ → ℕ → ℕ → (Pending → Type 0) → Soon → Type 0
 SoonestColumn c list pending now last limit IsSeen soon = IsSoonest (TakesBySeq (WantsSeen (WantsColumn list) IsSeen) c list pending last) now limit soon
 
+-- of those whose bank isn't left,
+abbrev pub SoonestColumnBut : Checked → List Stamped → List Pending → ℕ → ℕ → ℕ → BankSet → Soon → Type 0
+SoonestColumnBut c list pending now last limit left soon = SoonestColumn c list pending now last limit (IsPast left) soon
+
+-- and of the reads of the bank of a number beside them,
+abbrev pub SoonestColumnButWrites : Checked → List Stamped → List Pending → ℕ → ℕ → ℕ → BankSet → ℕ → Soon → Type 0
+SoonestColumnButWrites c list pending now last limit left n soon = SoonestColumn c list pending now last limit (IsPastOrRead left n) soon
+
 -- the soonest ACT or PRE,
 abbrev pub SoonestRow : Checked → List Stamped → List Pending → ℕ → ℕ → ℕ → (Pending → Type 0) → Soon → Type 0
 SoonestRow c list pending now last limit IsSeen soon = IsSoonest (TakesBySeq (WantsSeen (WantsRow list pending) IsSeen) c list pending last) now limit soon
 
 -- and both, of those whose bank isn't left.
 pub record AreSoonestBut (c : Checked) (list : List Stamped) (pending : List Pending) (now last limit : ℕ) (left : BankSet) (look : NotedLook) : Type 0 where
-  pub column : SoonestColumn c list pending now last limit (IsPast left) look.column
+  pub column : SoonestColumnBut c list pending now last limit left look.column
   pub row : SoonestRow c list pending now last limit (IsPast left) look.row
 
 -- The note is that of the bank of a number, whose open row it has, and whose requests may have their commands before an end.

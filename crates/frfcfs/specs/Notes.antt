@@ -11,6 +11,14 @@ use Rattle.frfcfs.specs.BankSets.{Has}
 abbrev pub IsFree : Key → Type 0
 IsFree k = IsTrue k.first × (k.held ≡ false)
 
+-- It is that of an eligible request of the bank,
+abbrev pub IsFreeOf : ℕ → Key → Type 0
+IsFreeOf bank k = IsFree k × (k.bank ≡ bank)
+
+-- which is of the kind and wants the row.
+abbrev pub IsFreeIn : ℕ → ℕ → Kind → Key → Type 0
+IsFreeIn bank row kind k = IsFreeOf bank k × (k.row ≡ row) × (k.kind ≡ kind)
+
 -- It is one of the list, of an eligible request of the bank,
 abbrev pub IsOfBank : List Key → ℕ → Key → Type 0
 IsOfBank keys bank k = Contains keys k × IsFree k × (k.bank ≡ bank)

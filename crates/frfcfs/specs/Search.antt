@@ -78,6 +78,10 @@ pub record AreBest (c : Checked) (list : List Stamped) (pending : List Pending) 
   pub column : IsBest (Takes (WantsColumn list) c list pending last) now limit end bests.column
   pub row : IsBest (Takes (WantsRow list pending) c list pending last) now limit end bests.row
 
+-- the best of each class among all requests, in a span up to a last clock
+abbrev pub AreAllBest : Checked → List Stamped → List Pending → ℕ → ℕ → Bests → Type 0
+AreAllBest c list pending now last bests = AreBest c list pending now last (limit_of last) (length pending) bests
+
 -- A clock below the limit is no earlier than now, and its index that of an eligible request.
 abbrev pub IsFound : Geometry → List Pending → ℕ → ℕ → Best → Type 0
 IsFound g pending now limit best =
@@ -93,9 +97,18 @@ pub record AreBestInTurn (c : Checked) (list : List Stamped) (pending : List Pen
   pub row : bests.row.clock < bests.column.clock → IsBest (Takes (WantsRow list pending) c list pending last) now limit end bests.row
   pub later : (index clock : ℕ) → index < end → now ≤ clock → Takes (WantsRow list pending) c list pending last index clock → (clock < limit) × (bests.row.clock ≤ clock)
 
+-- the same among all requests, in a span up to a last clock
+abbrev pub AreAllBestInTurn : Checked → List Stamped → List Pending → ℕ → ℕ → Bests → Type 0
+AreAllBestInTurn c list pending now last bests = AreBestInTurn c list pending now last (limit_of last) (length pending) bests
+
 -- Their indices are those of eligible requests, as far as the choice asks for them.
 abbrev pub AreFoundInTurn : Geometry → List Pending → ℕ → ℕ → Bests → Type 0
-AreFoundInTurn g pending now limit bests = IsFound g pending now limit bests.column × (bests.row.clock < bests.column.clock → IsFound g pending now limit bests.row)
+AreFoundInTurn g pending now last bests =
+    IsFound g pending now (limit_of last) bests.column × (bests.row.clock < bests.column.clock → IsFound g pending now (limit_of last) bests.row)
+
+-- The answer says whether some request is eligible, and the geometry has its bank.
+abbrev pub TellsEligible : Geometry → List Pending → Bool → Type 0
+TellsEligible g pending any = IsTrue any ↔ HasEligibleIn g pending
 
 -- A command goes in a span, and serves no request.
 abbrev pub ServesNobodyIn : ℕ → ℕ → Next → Type 0

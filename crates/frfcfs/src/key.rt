@@ -2,7 +2,7 @@
 ghost use Rattle.std.specs.Prelude.{◌≡◌, ◌↔◌, IsTrue, false};
 ghost use Rattle.ddr4_timing.specs.Places.{bank_at};
 ghost use Rattle.frfcfs.specs.Keys.{bank_number, place_of};
-ghost use Rattle.frfcfs.specs.Notes.{IsFree};
+ghost use Rattle.frfcfs.specs.Notes.{IsFreeIn, IsFreeOf};
 ghost use Rattle.frfcfs.specs.Requests.{act_of, column_of};
 
 use crate::pending::Kind;
@@ -41,15 +41,14 @@ impl Key {
 
     /// Is it eligible, and of the bank of a number?
     pub(crate) fn is_of_bank(&self, bank: usize) -> bool
-        ensures { IsTrue result ↔ (IsFree self.now × (self.now.bank ≡ bank)) }
+        ensures { IsTrue result ↔ IsFreeOf bank self.now }
     {
         self.bank as usize == bank && self.is_free()
     }
 
     /// Is it one of those that want a row by one kind of command?
     pub(crate) fn is_hit(&self, bank: usize, row: u64, kind: Kind) -> bool
-        ensures { IsTrue result ↔ ((IsFree self.now × (self.now.bank ≡ bank)) × (self.now.row ≡ row)
-            × (self.now.kind ≡ kind)) }
+        ensures { IsTrue result ↔ IsFreeIn bank row kind self.now }
     {
         self.is_of_bank(bank) && self.row == row && self.kind == kind
     }

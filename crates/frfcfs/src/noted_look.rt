@@ -11,8 +11,8 @@ ghost use Rattle.frfcfs.specs.declared.pending.Pending.{Pending};
 ghost use Rattle.frfcfs.specs.BankSets.{IsOneTaken};
 ghost use Rattle.frfcfs.specs.Keys.{AreKeysIn, place_of};
 ghost use Rattle.frfcfs.specs.Notes.{AreNotes, IsHit, IsNoteOf, IsOldestSeq, SeqsRise};
-ghost use Rattle.frfcfs.specs.NotedLook.{AreNotedFound, AreSoonest, AreSoonestBut, AreThere, IsNoted, IsNotedFound, IsPast, IsPastOrRead, IsSooner, SoonestColumn, address_of};
-ghost use Rattle.frfcfs.specs.Search.{AreBestInTurn, AreEnds, AreFoundInTurn, HasEligibleIn, limit_of};
+ghost use Rattle.frfcfs.specs.NotedLook.{AreNotedFound, AreSoonest, AreSoonestBut, AreThere, IsNoted, IsNotedFound, IsSooner, SoonestColumnBut, SoonestColumnButWrites, address_of};
+ghost use Rattle.frfcfs.specs.Search.{AreAllBestInTurn, AreEnds, AreFoundInTurn, TellsEligible, limit_of};
 
 use crate::best::{Best, Bests};
 use crate::key::Key;
@@ -57,18 +57,20 @@ impl Soon {
         ensures found { (keys : List Key) (n limit : ℕ) (row : Option ℕ) →
             IsOldestSeq (IsHit keys n row kind) seq → end ≤ limit →
             IsNotedFound keys now limit self.old → IsNotedFound keys now limit self.new }
-        ensures read { (list : List Stamped) (pending : List Pending) (keys : List Key) (note : Note)
-            (last limit n : ℕ) (left rest : BankSet) → kind ≡ Read → Stands banks.now list →
+        ensures read { (list : List Stamped) (pending : List Pending) (keys : List Key) →
+            (note : Note) (last limit n : ℕ) (left rest : BankSet) → kind ≡ Read →
+            Stands banks.now list →
             IsNoted banks.now.checked list pending keys last limit n end note →
             at ≡ address_of n → IsOneTaken left (Some n) rest → note.read ≡ seq →
-            SoonestColumn banks.now.checked list pending now last limit (IsPast left) self.old →
-            SoonestColumn banks.now.checked list pending now last limit (IsPastOrRead left n) self.new }
-        ensures write { (list : List Stamped) (pending : List Pending) (keys : List Key) (note : Note)
-            (last limit n : ℕ) (left rest : BankSet) → kind ≡ Write → Stands banks.now list →
+            SoonestColumnBut banks.now.checked list pending now last limit left self.old →
+            SoonestColumnButWrites banks.now.checked list pending now last limit left n self.new }
+        ensures write { (list : List Stamped) (pending : List Pending) (keys : List Key) →
+            (note : Note) (last limit n : ℕ) (left rest : BankSet) → kind ≡ Write →
+            Stands banks.now list →
             IsNoted banks.now.checked list pending keys last limit n end note →
             at ≡ address_of n → IsOneTaken left (Some n) rest → note.write ≡ seq →
-            SoonestColumn banks.now.checked list pending now last limit (IsPastOrRead left n) self.old →
-            SoonestColumn banks.now.checked list pending now last limit (IsPast rest) self.new }
+            SoonestColumnButWrites banks.now.checked list pending now last limit left n self.old →
+            SoonestColumnBut banks.now.checked list pending now last limit rest self.new }
     {
         let Some(seq) = seq else {
             return;
@@ -222,13 +224,13 @@ pub(crate) fn find_noted(
     requires notes { AreNotes keys.now notes.now }
     ensures any { IfSome result (λ soonest. (pending : List Pending) →
         AreKeysIn banks.now.checked.geometry pending keys.now →
-        (IsTrue soonest.any ↔ HasEligibleIn banks.now.checked.geometry pending)) }
+        TellsEligible banks.now.checked.geometry pending soonest.any) }
     ensures found { IfSome result (λ soonest. (pending : List Pending) →
         AreKeysIn banks.now.checked.geometry pending keys.now →
-        AreFoundInTurn banks.now.checked.geometry pending now (limit_of last) soonest.bests) }
+        AreFoundInTurn banks.now.checked.geometry pending now last soonest.bests) }
     ensures best { IfSome result (λ soonest. (list : List Stamped) (pending : List Pending) →
         Stands banks.now list → AreKeysIn banks.now.checked.geometry pending keys.now →
-        AreBestInTurn banks.now.checked list pending now last (limit_of last) (length pending) soonest.bests) }
+        AreAllBestInTurn banks.now.checked list pending now last soonest.bests) }
 {
     let ends = ends(banks, last);
     let look = look_at_each(banks, notes, &ends, now, last)?;

@@ -1,7 +1,7 @@
 // What a queue notes of each bank for the choice.
 ghost use Rattle.std.specs.Prelude.{◌≡◌, ◌≢◌, ℕ, ◌<◌, ◌≤◌, ◌↔◌, ◌⊎◌, [], List, Option, Some, None, All, IfSome, IsTrue, length, remove, slice_get};
 ghost use Rattle.frfcfs.specs.declared.key.Key.{Key};
-ghost use Rattle.frfcfs.specs.Notes.{AreNotes, IsFirstIn, IsFree, IsGone, IsHit, IsMarked, IsNoteOf, IsOfBank, IsOldestSeq, Joins, SeqsRise, older};
+ghost use Rattle.frfcfs.specs.Notes.{AreNotes, IsFirstIn, IsFree, IsFreeIn, IsFreeOf, IsGone, IsHit, IsMarked, IsNoteOf, IsOfBank, IsOldestSeq, Joins, SeqsRise, older};
 
 use crate::bank_set::BankSet;
 use crate::key::Key;
@@ -34,15 +34,14 @@ fn older(seq: Option<u64>, other: u64) -> u64
 
 // Where the first key of a bank stands that is eligible.
 fn place_in_bank(keys: &[Key], bank: usize) -> Option<usize>
-    ensures { IsFirstIn (λ key. IsFree key × (key.bank ≡ bank)) keys.now result }
+    ensures { IsFirstIn (IsFreeOf bank) keys.now result }
 {
     keys.iter().position(|key| key.is_of_bank(bank))
 }
 
 // The same of those that want a row by one kind of command.
 fn place_in_row(keys: &[Key], bank: usize, row: u64, kind: Kind) -> Option<usize>
-    ensures { IsFirstIn (λ key. (IsFree key × (key.bank ≡ bank)) × (key.row ≡ row) × (key.kind ≡ kind))
-        keys.now result }
+    ensures { IsFirstIn (IsFreeIn bank row kind) keys.now result }
 {
     keys.iter().position(|key| key.is_hit(bank, row, kind))
 }

@@ -9,7 +9,7 @@ ghost use Rattle.frfcfs.specs.Keys.{AreKeysIn, IsKeyOf, place_of};
 ghost use Rattle.frfcfs.specs.Requests.{IsEligible};
 ghost use Rattle.frfcfs.specs.Candidates.{WantsRow};
 ghost use Rattle.frfcfs.specs.Scan.{AreScanned, IsScanFound, flag_of};
-ghost use Rattle.frfcfs.specs.Search.{AreBest, AreEnds, AreFound, HasEligibleIn, IsBest, IsFound, Takes, limit_of, no_bests};
+ghost use Rattle.frfcfs.specs.Search.{AreAllBest, AreEnds, AreFound, IsBest, IsFound, Takes, TellsEligible, limit_of, no_bests};
 
 use crate::bank_set::BankSet;
 use crate::best::{Best, Bests};
@@ -120,14 +120,15 @@ impl Scan {
         requires early { (rank : ℕ) → slice_index ends.now rank ≤ limit_of last }
         ensures any { (pending : List Pending)
             → AreKeysIn banks.now.checked.geometry pending keys.now →
-            (IsTrue result ↔ HasEligibleIn banks.now.checked.geometry pending) }
+            TellsEligible banks.now.checked.geometry pending result }
         ensures found { (pending : List Pending)
             → AreKeysIn banks.now.checked.geometry pending keys.now →
             IsScanFound banks.now.checked.geometry pending now (limit_of last) self.new }
         ensures scanned { (list : List Stamped) (pending : List Pending) → Stands banks.now list →
             AreEnds banks.now.checked list last ends.now →
             AreKeysIn banks.now.checked.geometry pending keys.now →
-            AreScanned banks.now.checked list pending now last (limit_of last) (length pending) self.new }
+            AreScanned banks.now.checked list pending now last (limit_of last)
+            (length pending) self.new }
     {
         let mut any = false;
         for (index, key) in keys.iter().enumerate() {
@@ -189,11 +190,11 @@ pub(crate) fn find_soonest(
     last: u64,
 ) -> Soonest
     requires { AreKeysIn banks.now.checked.geometry pending.now keys.now }
-    ensures any { IsTrue result.any ↔ HasEligibleIn banks.now.checked.geometry pending.now }
+    ensures any { TellsEligible banks.now.checked.geometry pending.now result.any }
     ensures found { AreFound banks.now.checked.geometry pending.now now (limit_of last)
         result.bests }
     ensures best { (list : List Stamped) → Stands banks.now list →
-        AreBest banks.now.checked list pending.now now last (limit_of last) (length pending.now) result.bests }
+        AreAllBest banks.now.checked list pending.now now last result.bests }
 {
     let ends = ends(banks, last);
     let mut scan = Scan::none(last);

@@ -8,7 +8,7 @@ ghost use Rattle.frfcfs.specs.declared.pending.Pending.{Pending};
 ghost use Rattle.frfcfs.specs.Requests.{AreInOrder};
 ghost use Rattle.frfcfs.specs.Candidates.{WantsRow};
 ghost use Rattle.frfcfs.specs.Next.{IsNextIn, IsServable};
-ghost use Rattle.frfcfs.specs.Search.{AreBest, AreBestInTurn, AreEnds, AreFound, AreFoundInTurn, AreHits, AreMarks, IsRankNext, IsSoonerOf, ServesNobodyIn, limit_of};
+ghost use Rattle.frfcfs.specs.Search.{AreAllBest, AreAllBestInTurn, AreEnds, AreFound, AreFoundInTurn, AreHits, AreMarks, IsRankNext, IsSoonerOf, ServesNobodyIn, limit_of};
 
 use crate::best::Bests;
 use crate::hits::{Hits, is_eligible};
@@ -47,7 +47,7 @@ fn soonest_requests(
     ensures found { AreFound banks.now.checked.geometry pending.now now (limit_of last) result }
     ensures best { (list : List Stamped) → Stands banks.now list →
         AreHits banks.now.checked.geometry list pending.now (length pending.now) hits.now →
-        AreBest banks.now.checked list pending.now now last (limit_of last) (length pending.now) result }
+        AreAllBest banks.now.checked list pending.now now last result }
 {
     let ends = ends(banks, last);
     let geometry = &banks.checked().geometry;
@@ -132,9 +132,9 @@ pub(crate) fn first_of(
     last: u64,
 ) -> Option<Next>
     requires order { AreInOrder pending.now }
-    requires found { AreFoundInTurn banks.now.checked.geometry pending.now now (limit_of last) bests }
+    requires found { AreFoundInTurn banks.now.checked.geometry pending.now now last bests }
     requires best { (list : List Stamped) → Stands banks.now list →
-        AreBestInTurn banks.now.checked list pending.now now last (limit_of last) (length pending.now) bests }
+        AreAllBestInTurn banks.now.checked list pending.now now last bests }
     ensures span { IfSome result (λ next. (now ≤ next.clock) × (next.clock ≤ last)) }
     ensures serves { IfSome result (λ next. IfSome next.serves (IsServable pending.now)) }
     ensures next { (list : List Stamped) → Stands banks.now list →

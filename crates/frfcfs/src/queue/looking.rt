@@ -1,9 +1,9 @@
 // The requests of a queue that may have their commands first.
-ghost use Rattle.std.specs.Prelude.{◌↔◌, List, All, IsTrue, length};
+ghost use Rattle.std.specs.Prelude.{List, All};
 ghost use Rattle.ddr4_timing.specs.Places.{LiesIn};
 ghost use Rattle.ddr4_timing.specs.declared.command.Stamped.{Stamped};
 ghost use Rattle.bank_core.specs.Stands.{Stands};
-ghost use Rattle.frfcfs.specs.Search.{AreBestInTurn, AreFoundInTurn, HasEligibleIn, limit_of};
+ghost use Rattle.frfcfs.specs.Search.{AreAllBestInTurn, AreFoundInTurn, TellsEligible};
 
 use crate::noted_look::find_noted;
 use crate::queue::Queue;
@@ -15,12 +15,11 @@ impl Queue {
     /// request where other rows are open than those that it was told of.
     pub(crate) fn soonest(&self, banks: &Banks, now: u64, last: u64) -> Soonest
         requires { All (λ p. LiesIn banks.now.checked.geometry p.place) self.now.requests }
-        ensures any { IsTrue result.any ↔ HasEligibleIn banks.now.checked.geometry self.now.requests }
-        ensures found { AreFoundInTurn banks.now.checked.geometry self.now.requests now (limit_of last)
+        ensures any { TellsEligible banks.now.checked.geometry self.now.requests result.any }
+        ensures found { AreFoundInTurn banks.now.checked.geometry self.now.requests now last
             result.bests }
         ensures best { (list : List Stamped) → Stands banks.now list →
-            AreBestInTurn banks.now.checked list self.now.requests now last (limit_of last)
-            (length self.now.requests) result.bests }
+            AreAllBestInTurn banks.now.checked list self.now.requests now last result.bests }
     {
         let (pending, keys) = (self.pending.as_slice(), self.keys.as_slice());
         match find_noted(banks, keys, &self.notes, now, last) {
