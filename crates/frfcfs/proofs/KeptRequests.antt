@@ -5,16 +5,15 @@ use Rattle.std.proofs.lemmas.List.{length-map, map-append}
 use Rattle.gap_list.specs.Bounded.{Bounded}
 use Rattle.frfcfs.specs.LineCounts.{AreCounts}
 use Rattle.frfcfs.specs.declared.line_counts.LineCounts.{LineCounts}
-use Rattle.frfcfs.specs.declared.notes.Notes.{Notes}
-use Rattle.frfcfs.specs.Notes.{AreNotes, Joins}
+use Rattle.frfcfs.specs.declared.notebook.Notebook.{Notebook}
+use Rattle.frfcfs.specs.Notebook.{KeepsNotes}
 use Rattle.frfcfs.proofs.Common.{AreKeys, AreToldBy, IsKeyOf, KeepsRequests, Key, MarksOldest, Pending, Waiting, firsts_of, held_by, numbered_from}
 use Rattle.frfcfs.proofs.KeepLemmas.{lines_numbered, waiting_numbered}
-use Rattle.frfcfs.proofs.NoteLemmas.{joins_push}
 use Rattle.frfcfs.proofs.KeyLemmas.{firsts_remove, keys_held, keys_numbered, keys_push, keys_remove, new_line, oldest_key}
 use Rattle.frfcfs.proofs.QueueLemmas.{line_at, lines, lines_held, lines_remove, waiting_held, request_push, request_take, waiting_push, waiting_take}
 
 -- no request
-pub kept_none : (most : ℕ) (counts : LineCounts) (notes : Notes) → AreCounts [] counts → AreNotes [] notes → KeepsRequests (record { most = most; next = 0; requests = [] }) (record { most = most; items = [] }) counts notes
+pub kept_none : (most : ℕ) (counts : LineCounts) (notes : Notebook) → AreCounts [] counts → KeepsNotes [] notes → KeepsRequests (record { most = most; next = 0; requests = [] }) (record { most = most; items = [] }) counts notes
 kept_none most counts notes counted noted = record {
   waiting = record { order = λ i j d less within. absurd (omega (arith, within)); before = λ i d within. absurd (omega (arith, within)); few = omega arith };
   marks = record { size = refl; each = λ i within. absurd (omega (arith, within)) };
@@ -25,8 +24,8 @@ kept_none most counts notes counted noted = record {
 }
 
 -- one more at the end
-pub kept_push : (w : Waiting) (keys : Bounded Key) (p : Pending) (k : Key) (counts more : LineCounts) (notes after : Notes) → KeepsRequests w keys counts notes → length w.requests < w.most → p.seq ≡ w.next → (IsTrue k.first ↔ All (λ key. key.line ≢ p.line) keys.items) → IsKeyOf p k
-    → ((ns : List ℕ) → AreCounts ns counts → AreCounts (ns ++ p.line ∷ []) more) → ((old new : List Key) → Joins k old new → AreNotes old notes → AreNotes new after)
+pub kept_push : (w : Waiting) (keys : Bounded Key) (p : Pending) (k : Key) (counts more : LineCounts) (notes after : Notebook) → KeepsRequests w keys counts notes → length w.requests < w.most → p.seq ≡ w.next → (IsTrue k.first ↔ All (λ key. key.line ≢ p.line) keys.items) → IsKeyOf p k
+    → ((ns : List ℕ) → AreCounts ns counts → AreCounts (ns ++ p.line ∷ []) more) → KeepsNotes (keys.items ++ k ∷ []) after
     → KeepsRequests (record { most = w.most; next = w.next + 1; requests = w.requests ++ p ∷ [] }) (record keys { items = keys.items ++ k ∷ [] }) more after
 kept_push w keys p k counts more notes after kept room seq here own counted noted =
     let same = new_line p.line w.requests keys.items kept.keyed in
@@ -36,7 +35,7 @@ kept_push w keys p k counts more notes after kept room seq here own counted note
       keyed = keys_push w.requests keys.items p k kept.keyed own;
       room = kept.room;
       counted = rw (map-append (λ (q : Pending). q.line) w.requests (p ∷ [])) (counted (lines w.requests) kept.counted);
-      noted = noted keys.items (keys.items ++ k ∷ []) (joins_push keys.items k) kept.noted;
+      noted = noted;
     }
 
 -- the line of a request that stands somewhere
@@ -45,11 +44,11 @@ line_there requests i p at =
     slice_get-get_or (lines requests) i 0 (omega (arith, slice_get_within requests i p at, length-map requests (λ (q : Pending). q.line))) ∙ ap Some (line_at requests i p at)
 
 -- one taken out, and the next one of its line marked
-pub kept_take : (w : Waiting) (keys marked : Bounded Key) (i : ℕ) (p : Pending) (counts less : LineCounts) (notes after : Notes) → KeepsRequests w keys counts notes → slice_get w.requests i ≡ Some p → marked.most ≡ keys.most
+pub kept_take : (w : Waiting) (keys marked : Bounded Key) (i : ℕ) (p : Pending) (counts less : LineCounts) (notes after : Notebook) → KeepsRequests w keys counts notes → slice_get w.requests i ≡ Some p → marked.most ≡ keys.most
     → ((ns : List ℕ) (place : ℕ) → slice_get ns place ≡ Some p.line → AreCounts ns counts → AreCounts (remove ns place) less)
     → ((requests : List Pending) → AreKeys requests (remove keys.items i) → AreCounts (lines requests) less → MarksOldest p.line (remove keys.items i) (firsts_of (remove keys.items i)) (firsts_of marked.items))
     → ((requests : List Pending) → AreKeys requests (remove keys.items i) → AreKeys requests marked.items)
-    → AreNotes marked.items after → KeepsRequests (record w { requests = remove w.requests i }) marked less after
+    → KeepsNotes marked.items after → KeepsRequests (record w { requests = remove w.requests i }) marked less after
 kept_take w keys marked i p counts less notes after kept at most forgets marks_oldest stay noted =
     let within = slice_get_within w.requests i p at in
     let left = keys_remove w.requests keys.items i kept.keyed within in
@@ -67,7 +66,7 @@ kept_take w keys marked i p counts less notes after kept at most forgets marks_o
 
 -- each is held or not, and each is numbered anew
 
-pub kept_held : (hold : Option ℕ) (w : Waiting) (keys new : Bounded Key) (counts : LineCounts) (notes after : Notes) → KeepsRequests w keys counts notes → new.most ≡ keys.most → AreToldBy (map (held_by hold) w.requests) keys.items new.items → AreNotes new.items after
+pub kept_held : (hold : Option ℕ) (w : Waiting) (keys new : Bounded Key) (counts : LineCounts) (notes after : Notebook) → KeepsRequests w keys counts notes → new.most ≡ keys.most → AreToldBy (map (held_by hold) w.requests) keys.items new.items → KeepsNotes new.items after
     → KeepsRequests (record w { requests = map (held_by hold) w.requests }) new counts after
 kept_held hold w keys new counts notes after kept most told noted = record {
   waiting = waiting_held w hold kept.waiting;
@@ -78,7 +77,7 @@ kept_held hold w keys new counts notes after kept most told noted = record {
   noted = noted;
 }
 
-pub kept_numbered : (w : Waiting) (keys new : Bounded Key) (counts : LineCounts) (notes after : Notes) → KeepsRequests w keys counts notes → new.most ≡ keys.most → AreToldBy (numbered_from 0 w.requests) keys.items new.items → AreNotes new.items after
+pub kept_numbered : (w : Waiting) (keys new : Bounded Key) (counts : LineCounts) (notes after : Notebook) → KeepsRequests w keys counts notes → new.most ≡ keys.most → AreToldBy (numbered_from 0 w.requests) keys.items new.items → KeepsNotes new.items after
     → KeepsRequests (record { most = w.most; next = length w.requests; requests = numbered_from 0 w.requests }) new counts after
 kept_numbered w keys new counts notes after kept most told noted = record {
   waiting = waiting_numbered w kept.waiting;

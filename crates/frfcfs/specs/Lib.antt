@@ -1,6 +1,7 @@
 pub mod Requests
 pub mod Keys
 pub mod Notes
+pub mod Notebook
 pub mod LineCounts
 pub mod Queue
 pub mod Candidates

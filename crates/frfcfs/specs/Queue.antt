@@ -3,13 +3,13 @@ use Rattle.std.specs.Prelude.{◌≡◌, ◌≢◌, ℕ, ◌+◌, ◌<◌, ◌�
 use Rattle.gap_list.specs.Bounded.{Bounded}
 use Rattle.frfcfs.specs.declared.key.Key.{Key}
 use Rattle.frfcfs.specs.declared.line_counts.LineCounts.{LineCounts}
-use Rattle.frfcfs.specs.declared.notes.Notes.{Notes}
+use Rattle.frfcfs.specs.declared.notebook.Notebook.{Notebook}
 use Rattle.frfcfs.specs.declared.pending.Kind.{Kind}
 use Rattle.frfcfs.specs.declared.pending.Kind.TheVariants.{Read, Write}
 use Rattle.frfcfs.specs.declared.pending.Pending.{Pending}
 use Rattle.frfcfs.specs.Keys.{AreKeys, firsts_of}
 use Rattle.frfcfs.specs.LineCounts.{AreCounts}
-use Rattle.frfcfs.specs.Notes.{AreNotes}
+use Rattle.frfcfs.specs.Notebook.{KeepsNotes}
 use Rattle.frfcfs.specs.Requests.{AreInOrder}
 
 -- how many requests it may hold, the seq of the next one, and those that it holds, in order of arrival
@@ -34,13 +34,13 @@ pub record AreFirsts (lines : List ℕ) (firsts : List Bool) : Type 0 where
   pub each : (i : ℕ) → i < length lines → (IsTrue (slice_index_or firsts i false) ↔ IsFirstAt lines i)
 
 -- What is true of what a queue keeps: beside its requests a key of each, with room for as many, the counts of their lines, and notes of the banks.
-pub record KeepsRequests (queue : Waiting) (keys : Bounded Key) (counts : LineCounts) (notes : Notes) : Type 0 where
+pub record KeepsRequests (queue : Waiting) (keys : Bounded Key) (counts : LineCounts) (book : Notebook) : Type 0 where
   pub waiting : IsWaiting queue
   pub marks : AreFirsts (map (λ p. p.line) queue.requests) (firsts_of keys.items)
   pub keyed : AreKeys queue.requests keys.items
   pub room : keys.most ≡ queue.most
   pub counted : AreCounts (map (λ p. p.line) queue.requests) counts
-  pub noted : AreNotes keys.items notes
+  pub noted : KeepsNotes keys.items book
 
 -- writes from a number on are held
 abbrev pub is_held : Option ℕ → Kind → ℕ → Bool

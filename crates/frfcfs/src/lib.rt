@@ -14,6 +14,7 @@ pub mod laws;
 mod line_counts;
 pub mod margin;
 pub mod next;
+mod notebook;
 mod noted_look;
 mod notes;
 pub mod pending;

@@ -10,12 +10,14 @@ ghost use Rattle.frfcfs.specs.declared.pending.Kind.TheVariants.{Read, Write};
 ghost use Rattle.frfcfs.specs.declared.pending.Pending.{Pending};
 ghost use Rattle.frfcfs.specs.BankSets.{IsOneTaken};
 ghost use Rattle.frfcfs.specs.Keys.{AreKeysIn, place_of};
+ghost use Rattle.frfcfs.specs.Notebook.{KeepsNotes};
 ghost use Rattle.frfcfs.specs.Notes.{AreNotes, IsHit, IsNoteOf, IsOldestSeq, SeqsRise};
 ghost use Rattle.frfcfs.specs.NotedLook.{AreNotedFound, AreSoonest, AreSoonestBut, AreThere, IsNoted, IsNotedFound, IsSooner, SoonestColumnBut, SoonestColumnButWrites, address_of};
 ghost use Rattle.frfcfs.specs.Search.{AreAllBestInTurn, AreEnds, AreFoundInTurn, TellsEligible, limit_of};
 
 use crate::best::{Best, Bests};
 use crate::key::Key;
+use crate::notebook::Notebook;
 use crate::notes::{Note, Notes};
 use crate::pending::Kind;
 use crate::scan::Soonest;
@@ -211,17 +213,17 @@ fn look_at_each(
 }
 
 /// The requests that may have their commands first in a span, by what is noted of their banks. It looks at each bank with a
-/// request once; None where it finds another row open there than the one for which it is noted.
+/// request once; None where nothing is noted, or another row is open there than the one for which it is noted.
 pub(crate) fn find_noted(
     banks: &Banks,
     keys: &[Key],
-    notes: &Notes,
+    book: &Notebook,
     now: u64,
     last: u64,
 ) -> Option<Soonest>
     requires keys { All (λ key. LiesIn banks.now.checked.geometry (place_of key)) keys.now }
     requires order { SeqsRise keys.now }
-    requires notes { AreNotes keys.now notes.now }
+    requires notes { KeepsNotes keys.now book.now }
     ensures any { IfSome result (λ soonest. (pending : List Pending) →
         AreKeysIn banks.now.checked.geometry pending keys.now →
         TellsEligible banks.now.checked.geometry pending soonest.any) }
@@ -232,6 +234,10 @@ pub(crate) fn find_noted(
         Stands banks.now list → AreKeysIn banks.now.checked.geometry pending keys.now →
         AreAllBestInTurn banks.now.checked list pending now last soonest.bests) }
 {
+    if !book.is_kept {
+        return None;
+    }
+    let notes = &book.notes;
     let ends = ends(banks, last);
     let look = look_at_each(banks, notes, &ends, now, last)?;
     let limit = last.saturating_add(1);

@@ -13,7 +13,7 @@ mod looking;
 
 use crate::key::{Key, bank_number};
 use crate::line_counts::LineCounts;
-use crate::notes::Notes;
+use crate::notebook::Notebook;
 use crate::pending::{Kind, Pending};
 use ddr4_timing::command::Command;
 use ddr4_timing::place::Place;
@@ -30,7 +30,7 @@ pub struct Queue {
     pending: GapList<Pending>,
     keys: GapList<Key>,
     counts: LineCounts,
-    notes: Notes,
+    book: Notebook,
     next: u64,
 }
 
@@ -40,7 +40,7 @@ impl Model for Queue {
     ghost view = { λ q. record { most = q.pending.most; next = q.next; requests = q.pending.items } };
 
     ghost invariant = { λ q. KeepsRequests (record { most = q.pending.most; next = q.next; requests = q.pending.items })
-        q.keys q.counts q.notes };
+        q.keys q.counts q.book };
 }
 
 // Is the line that of no key? The counts are those of their lines.
@@ -136,7 +136,7 @@ impl Queue {
             pending: GapList::with_room(alloc, most)?,
             keys: GapList::with_room(alloc, most)?,
             counts: LineCounts::none(),
-            notes: Notes::none(),
+            book: Notebook::none(),
             next: 0,
         })
     }
@@ -198,8 +198,8 @@ impl Queue {
             first,
             held,
         };
-        self.notes.add(&key);
         self.keys.push(key);
+        self.book.add(self.keys.as_slice(), &key);
         self.next += 1;
     }
 
@@ -212,10 +212,10 @@ impl Queue {
     {
         let taken = self.pending.take(place);
         let key = self.keys.take(place);
-        self.notes.forget(self.keys.as_slice(), &key, place);
+        self.book.forget(self.keys.as_slice(), &key, place);
         self.counts.forget(taken.line);
         let marked = mark_oldest(&mut self.keys, &self.counts, taken.line);
-        self.notes.mark(marked);
+        self.book.mark(marked);
         taken
     }
 
@@ -225,7 +225,7 @@ impl Queue {
     {
         hold_each(&mut self.pending, from);
         tell_keys(&mut self.keys, self.pending.as_slice());
-        self.notes.renew(self.keys.as_slice());
+        self.book.renew(self.keys.as_slice());
     }
 
     /// Drops the reads, and numbers the writes anew from 0. It takes each read out.
@@ -237,7 +237,7 @@ impl Queue {
         self.drop_reads();
         number_each(&mut self.pending);
         tell_keys(&mut self.keys, self.pending.as_slice());
-        self.notes.renew(self.keys.as_slice());
+        self.book.renew(self.keys.as_slice());
         self.next = self.pending.len() as u64;
     }
 
@@ -245,7 +245,7 @@ impl Queue {
     pub fn follow(&mut self, cmd: &Command)
         ensures { self.new ≡ self.old }
     {
-        self.notes.follow(self.keys.as_slice(), cmd);
+        self.book.follow(self.keys.as_slice(), cmd);
     }
 
     // Takes the reads out.

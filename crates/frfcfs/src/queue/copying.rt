@@ -13,7 +13,7 @@ impl Queue {
             pending: self.pending.copy(alloc)?,
             keys: self.keys.copy(alloc)?,
             counts: self.counts,
-            notes: self.notes,
+            book: self.book,
             next: self.next,
         })
     }

@@ -22,7 +22,7 @@ impl Queue {
             AreAllBestInTurn banks.now.checked list self.now.requests now last result.bests }
     {
         let (pending, keys) = (self.pending.as_slice(), self.keys.as_slice());
-        match find_noted(banks, keys, &self.notes, now, last) {
+        match find_noted(banks, keys, &self.book, now, last) {
             Some(soonest) => soonest,
             None => find_soonest(banks, pending, keys, now, last),
         }

@@ -19,7 +19,7 @@ invariant_of-self c =
     let new = c.tell_keys.new.keys in
     let now = c.as_slice.ensures ∙ ap (λ (l : Bounded Pending). l.items) c.hold_each.ensures in
     let told = subst (λ (xs : List Pending). AreToldBy xs inside.keys.items new.items) now c.tell_keys.ensures.told in
-    rw c.hold_each.ensures (kept_held c.args.from w inside.keys new inside.counts inside.notes c.renew.new.self c.self.invariant c.tell_keys.ensures.most told (rw (← c.as_slice-2.ensures) c.renew.ensures))
+    rw c.hold_each.ensures (kept_held c.args.from w inside.keys new inside.counts inside.book c.renew.new.self c.self.invariant c.tell_keys.ensures.most told (rw (← c.as_slice-2.ensures) c.renew.ensures))
 
 pub returns : goal.returns
 returns c =

@@ -27,4 +27,4 @@ invariant_of-self c =
     let now = c.as_slice.ensures ∙ ap (λ (l : Bounded Pending). l.items) c.number_each.ensures in
     let told = subst (λ (xs : List Pending). AreToldBy xs inside.keys.items new.items) now c.tell_keys.ensures.told in
     let next : c.len.result ≡ length w.requests = c.len.ensures ∙ (ap (λ (l : Bounded Pending). length l.items) c.number_each.ensures ∙ length-numbered 0 w.requests) in
-    rw (next, c.number_each.ensures) (kept_numbered w inside.keys new inside.counts inside.notes c.renew.new.self c.self.invariant c.tell_keys.ensures.most told (rw (← c.as_slice-2.ensures) c.renew.ensures))
+    rw (next, c.number_each.ensures) (kept_numbered w inside.keys new inside.counts inside.book c.renew.new.self c.self.invariant c.tell_keys.ensures.most told (rw (← c.as_slice-2.ensures) c.renew.ensures))

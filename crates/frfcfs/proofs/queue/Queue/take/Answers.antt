@@ -2,7 +2,8 @@ use Rattle.std.proofs.Common.{◌≡◌, List, remove, ap, ◌∙◌}
 use Rattle.std.proofs.lemmas.Option.{slice_get_within}
 use Rattle.gap_list.specs.Bounded.{Bounded}
 use Rattle.frfcfs.specs.LineCounts.{AreCounts}
-use Rattle.frfcfs.specs.Notes.{AreNotes, IsMarked}
+use Rattle.frfcfs.specs.Notebook.{KeepsNotes}
+use Rattle.frfcfs.specs.Notes.{IsMarked}
 use Rattle.frfcfs.proofs.Common.{AreKeys, Key, MarksOldest, Pending, Waiting, firsts_of}
 use Rattle.frfcfs.proofs.CountLemmas.{counts_some}
 use Rattle.frfcfs.proofs.KeptRequests.{kept_take, line_there}
@@ -42,7 +43,7 @@ invariant_of-self c =
     let is : IsMarked (remove inside.keys.items c.args.place) c.mark_oldest-marked.result marked.items = rw (← gone) c.mark_oldest-marked.ensures.marked in
     let rise = keys_rise inside.pending.items inside.keys.items c.self.invariant.waiting.order c.self.invariant.keyed in
     let left : c.as_slice.result.now ≡ remove inside.keys.items c.args.place = c.as_slice.ensures ∙ gone in
-    let noted : AreNotes (remove inside.keys.items c.args.place) c.forget.new.self = rw (← left) (c.forget.ensures inside.keys.items c.take-key.ensures.taken left rise c.self.invariant.noted) in
+    let noted : KeepsNotes (remove inside.keys.items c.args.place) c.forget.new.self = rw (← left) (c.forget.ensures inside.keys.items c.take-key.ensures.taken left rise c.self.invariant.noted) in
     rw taken.ensures.left
-    (kept_take w inside.keys marked c.args.place taken.result inside.counts less inside.notes c.mark.new.self c.self.invariant taken.ensures.taken (c.mark_oldest-marked.ensures.most ∙ ap (λ (l : Bounded Key). l.most) c.take-key.ensures.left) c.forget-2.ensures marks stay
+    (kept_take w inside.keys marked c.args.place taken.result inside.counts less inside.book c.mark.new.self c.self.invariant taken.ensures.taken (c.mark_oldest-marked.ensures.most ∙ ap (λ (l : Bounded Key). l.most) c.take-key.ensures.left) c.forget-2.ensures marks stay
     (c.mark.ensures (remove inside.keys.items c.args.place) marked.items is noted))
