@@ -23,7 +23,7 @@ use Rattle.line_memory.specs.History.{Recorded}
 use Rattle.line_memory.specs.Parts.{AreBefore}
 use Rattle.nv_machine.proofs.Guarded.{cut_below, persisted_accepted}
 use Rattle.nv_machine.specs.State.{Machine, start_of_life}
-use Rattle.split_machine.proofs.ToldOf.{told_of_log}
+use Rattle.split_module.proofs.ToldOf.{told_of_log}
 use Rattle.split_module.specs.Lending.{HasBeenSeen}
 use Rattle.board_desk.proofs.Lending.{IsDue, channel_due, out_told}
 use Rattle.board_desk.specs.Answering.{IsAskedFor}

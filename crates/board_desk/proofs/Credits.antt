@@ -12,7 +12,7 @@ use Rattle.channel_part.specs.declared.part.Part.{Part}
 use Rattle.channel_port.specs.Waits.{Waits}
 use Rattle.channel_port.specs.declared.port.ChannelPort.{Ghosts}
 use Rattle.nv_machine.specs.State.{Machine}
-use Rattle.split_machine.proofs.ToldOf.{credits_told}
+use Rattle.split_module.proofs.ToldOf.{credits_told}
 use Rattle.board_desk.specs.Credits.{AreParts, owed_in}
 use Rattle.board_desk.specs.Desk.{AreBoardLogs, DeskStands, DeskView, setup_at}
 

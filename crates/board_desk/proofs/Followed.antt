@@ -23,8 +23,8 @@ use Rattle.nv_machine.specs.Machine.{MachineStep}
 use Rattle.nv_machine.specs.Rising.{added}
 use Rattle.nv_machine.specs.State.{Machine, Setup, World}
 use Rattle.save_device.specs.Device.{DeviceState}
-use Rattle.split_machine.specs.OwnEvents.{looked}
-use Rattle.split_machine.specs.Telling.{with_note}
+use Rattle.split_module.specs.OwnEvents.{looked}
+use Rattle.split_module.specs.Telling.{with_note}
 use Rattle.split_module.specs.Lending.{HasReadOn, SplitStands, WroteOn}
 use Rattle.split_module.specs.declared.front.SplitFront.{SplitFront}
 use Rattle.board_desk.proofs.Happening.{happens_new, stands_after}

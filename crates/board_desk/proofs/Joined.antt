@@ -22,7 +22,7 @@ use Rattle.ddr4_timing.specs.declared.place.Place.{Place}
 use Rattle.energy_budget.specs.Costs.{AreReckonedFor}
 use Rattle.line_memory.specs.declared.parts.Numbered.{Numbered}
 use Rattle.nv_machine.specs.State.{Machine, base_of_life, start_of_life}
-use Rattle.split_machine.specs.Telling.{IsToldOf}
+use Rattle.split_module.specs.Telling.{IsToldOf}
 use Rattle.split_module.specs.Gathering.{ArePortsOf, FitAsModule, shape_in}
 use Rattle.split_module.specs.declared.gathering.SplitModule.{SplitModule}
 use Rattle.split_module.proofs.Gathered.{waits_gathered}

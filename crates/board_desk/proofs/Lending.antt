@@ -16,10 +16,10 @@ use Rattle.channel_part.specs.Stands.{PartStands, StandsNoted, queue_of, returne
 use Rattle.channel_port.specs.declared.port.ChannelPort.{Ghosts}
 use Rattle.channel_port.specs.Waits.{Waits}
 use Rattle.nv_machine.specs.State.{Machine}
-use Rattle.split_machine.proofs.ReadLines.{lived_has, logs_have}
-use Rattle.split_machine.proofs.ToldOf.{credits_told}
-use Rattle.split_machine.specs.OwnEvents.{looked}
-use Rattle.split_machine.specs.Telling.{laid_out, waits_told}
+use Rattle.split_module.proofs.ReadLines.{lived_has, logs_have}
+use Rattle.split_module.proofs.ToldOf.{credits_told}
+use Rattle.split_module.specs.OwnEvents.{looked}
+use Rattle.split_module.specs.Telling.{laid_out, waits_told}
 use Rattle.split_module.specs.Lending.{LooksAt, SplitStands}
 use Rattle.split_module.specs.declared.front.SplitFront.{SplitFront}
 use Rattle.board_desk.proofs.Settled.{settled}

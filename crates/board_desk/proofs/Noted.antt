@@ -4,8 +4,8 @@ use Rattle.std.specs.Prelude.{slice_index_or, slice_set}
 use Rattle.std.proofs.lemmas.List.{get_or-set_other, get_or-set_same, length-set}
 use Rattle.channel_log.specs.Log.{IsLogOf, LogNote, Told, log_tells}
 use Rattle.channel_log.specs.Seats.{AllLogs, IsNoted, OneLog}
-use Rattle.split_machine.proofs.ToldOf.{told_push}
-use Rattle.split_machine.specs.Telling.{with_note}
+use Rattle.split_module.proofs.ToldOf.{told_push}
+use Rattle.split_module.specs.Telling.{with_note}
 use Rattle.board_desk.specs.Answering.{SameElsewhere}
 
 module _ (note : LogNote) (front seat_front new_front : AllLogs) (seat own new_seat : OneLog) (noted : IsNoted note front seat new_front new_seat) (front_is : front ≡ seat_front) (seat_is : seat ≡ own) where

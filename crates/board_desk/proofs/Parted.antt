@@ -44,8 +44,8 @@ use Rattle.nv_workers.specs.Lived.{assembly_of, world_for}
 use Rattle.nv_workers.specs.declared.recorded_module.RecordedModule.{RecordedModule}
 use Rattle.save_device.specs.declared.device.SaveDevice.{Ghosts as DeviceGhosts}
 use Rattle.save_image.specs.Image.{Image}
-use Rattle.split_machine.proofs.ReadLines.{lived_has, told_has}
-use Rattle.split_machine.specs.Telling.{AreLogsOf, AreOwn, IsToldOf, laid_out, waits_told, written_in}
+use Rattle.split_module.proofs.ReadLines.{lived_has, told_has}
+use Rattle.split_module.specs.Telling.{AreLogsOf, AreOwn, IsToldOf, laid_out, waits_told, written_in}
 use Rattle.split_module.specs.Gathering.{FitAsModule, IsMadeOf, StandsGathered, StandsSplit, shape_in}
 use Rattle.split_module.specs.Lending.{SplitStands}
 use Rattle.split_module.specs.declared.gathering.SplitModule.{SplitModule}

@@ -15,10 +15,10 @@ use Rattle.module_saves.proofs.StoreSteps.{stop_now}
 use Rattle.nv_machine.proofs.JoinedRuns.{rests_here}
 use Rattle.nv_machine.specs.declared.events.Event.{Event}
 use Rattle.nv_machine.specs.State.{Machine, Setup, World}
-use Rattle.split_machine.proofs.OwnRuns.{came_run, guarded_waits}
-use Rattle.split_machine.proofs.ToldOf.{told_push}
-use Rattle.split_machine.specs.OwnEvents.{ComesOfOwn, LeavesCandidates, is_own, looked}
-use Rattle.split_machine.specs.Telling.{laid_out, waits_told, with_note}
+use Rattle.split_module.proofs.OwnRuns.{came_run, guarded_waits}
+use Rattle.split_module.proofs.ToldOf.{told_push}
+use Rattle.split_module.specs.OwnEvents.{ComesOfOwn, LeavesCandidates, is_own, looked}
+use Rattle.split_module.specs.Telling.{laid_out, waits_told, with_note}
 use Rattle.split_module.specs.declared.front.SplitFront.{SplitFront}
 use Rattle.split_module.specs.Lending.{SplitStands}
 use Rattle.board_desk.specs.Answering.{SeesOwn}

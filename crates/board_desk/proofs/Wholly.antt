@@ -18,7 +18,7 @@ use Rattle.nv_workers.specs.declared.board_name.BoardName.{Ghosts as BoardGhosts
 use Rattle.save_device.specs.Device.{DeviceState}
 use Rattle.split_module.specs.declared.front.SplitFront.{SplitFront}
 use Rattle.save_device.specs.declared.device.SaveDevice.{Ghosts as DeviceGhosts}
-use Rattle.split_machine.specs.OwnEvents.{ComesOfOwn, is_own}
+use Rattle.split_module.specs.OwnEvents.{ComesOfOwn, is_own}
 use Rattle.board_desk.specs.Answering.{HasSettled, Settles}
 use Rattle.board_desk.specs.Calling.{Course, GoesAlong}
 use Rattle.board_desk.specs.Desk.{DeskStands, DeskView, setup_at, world_at}

@@ -30,8 +30,8 @@ use Rattle.nv_machine.specs.declared.events.Reply.{Reply}
 use Rattle.nv_machine.specs.Rising.{added}
 use Rattle.nv_machine.specs.State.{Machine, base_of_life}
 use Rattle.nv_workers.specs.Marks.{ShowsNoMore}
-use Rattle.split_machine.proofs.ReadLines.{event_has, lived_has, logs_have}
-use Rattle.split_machine.specs.Telling.{with_note}
+use Rattle.split_module.proofs.ReadLines.{event_has, lived_has, logs_have}
+use Rattle.split_module.specs.Telling.{with_note}
 use Rattle.split_module.specs.Lending.{WroteOn}
 use Rattle.split_module.specs.declared.front.SplitFront.{SplitFront}
 use Rattle.board_desk.proofs.Followed.{Follows, write_accepted, write_refused}

@@ -15,7 +15,7 @@ use Rattle.nv_machine.specs.declared.events.Reply.{Reply}
 use Rattle.nv_machine.specs.Headline.{Happens}
 use Rattle.nv_machine.specs.State.{Machine}
 use Rattle.nv_workers.specs.declared.host.GotAt.{GotAt}
-use Rattle.split_machine.specs.OwnEvents.{ComesOfOwn}
+use Rattle.split_module.specs.OwnEvents.{ComesOfOwn}
 use Rattle.board_desk.specs.Desk.{DeskStands, DeskView, setup_at, world_at}
 
 module _ {B : Type 0} (P : PartsGhosts B) where

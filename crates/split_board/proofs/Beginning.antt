@@ -27,7 +27,7 @@ use Rattle.nv_machine.specs.State.{base_of_life}
 use Rattle.nv_workers.specs.Kept.{IsRecordKept}
 use Rattle.nv_workers.specs.declared.board_name.BoardName.{Ghosts as BoardGhosts}
 use Rattle.nv_workers.specs.declared.recorded_module.RecordedModule.{RecordedModule}
-use Rattle.split_machine.specs.Telling.{AreOwn}
+use Rattle.split_module.specs.Telling.{AreOwn}
 use Rattle.split_module.specs.Gathering.{FitAsModule, IsMadeOf, StandsSplit}
 use Rattle.split_module.specs.declared.gathering.SplitModule.{SplitModule}
 use Rattle.split_module.proofs.Gathered.{shape_made}

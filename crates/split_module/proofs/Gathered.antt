@@ -40,8 +40,8 @@ use Rattle.module_core.specs.declared.module.Module.{Module}
 use Rattle.nv_machine.specs.Guard.{IsGuarded}
 use Rattle.nv_machine.specs.State.{Machine, RunningSave, Setup, all_of, base_of_life, hold_at, hold_of, memory_of, start_of_life}
 use Rattle.nv_machine.proofs.Guarded.{cut_below}
-use Rattle.split_machine.specs.Telling.{AreLogsOf, IsToldOf, laid_out, waits_told}
-use Rattle.split_machine.proofs.ToldOf.{held_told}
+use Rattle.split_module.specs.Telling.{AreLogsOf, IsToldOf, laid_out, waits_told}
+use Rattle.split_module.proofs.ToldOf.{held_told}
 use Rattle.split_module.specs.declared.gathering.SplitModule.{SplitModule}
 use Rattle.split_module.specs.Gathering.{ArePortsOf, FitAsModule, IsMadeOf, StandsGathered, StandsSplit, shape_in}
 use Rattle.split_module.specs.Lending.{SplitStands}

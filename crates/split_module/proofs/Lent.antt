@@ -31,10 +31,10 @@ use Rattle.nv_machine.specs.Moves.{written}
 use Rattle.nv_machine.specs.Refusals.{read_refusal, write_refusal}
 use Rattle.nv_machine.specs.State.{Machine, Setup, all_of, base_of_life, memory_after, memory_of, pending_of, start_of_life}
 use Rattle.nv_machine.specs.declared.events.Accepted.{Accepted}
-use Rattle.split_machine.specs.OwnEvents.{looked}
-use Rattle.split_machine.specs.Telling.{AreLogsOf, AreOwn, laid_out, waits_told, with_note, with_waiting}
-use Rattle.split_machine.proofs.GivenTo.{got_told, logs_wrote, puts_told}
-use Rattle.split_machine.proofs.ToldOf.{credits_told, full_of_reads_told, full_told, logs_looked, told_of_log, told_push}
+use Rattle.split_module.specs.OwnEvents.{looked}
+use Rattle.split_module.specs.Telling.{AreLogsOf, AreOwn, laid_out, waits_told, with_note, with_waiting}
+use Rattle.split_module.proofs.GivenTo.{got_told, logs_wrote, puts_told}
+use Rattle.split_module.proofs.ToldOf.{credits_told, full_of_reads_told, full_told, logs_looked, told_of_log, told_push}
 use Rattle.split_module.specs.declared.front.SplitFront.{SplitFront}
 use Rattle.split_module.specs.Lending.{HasReadOn, HasBeenSeen, SplitStands, WroteOn}
 

@@ -15,7 +15,7 @@ use Rattle.module_core.specs.Stands.{Matches, setup_of}
 use Rattle.module_core.specs.declared.module.Module.{Module}
 use Rattle.nv_machine.specs.Guard.{IsGuarded}
 use Rattle.nv_machine.specs.State.{Machine, base_of_life}
-use Rattle.split_machine.specs.Telling.{AreLogsOf, IsToldOf}
+use Rattle.split_module.specs.Telling.{AreLogsOf, IsToldOf}
 use Rattle.split_module.specs.Lending.{SplitStands}
 use Rattle.split_module.specs.declared.gathering.SplitModule.{SplitModule}
 

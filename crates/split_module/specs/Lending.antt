@@ -16,8 +16,8 @@ use Rattle.module_core.specs.Fronts.{FrontMatches, setup_in}
 use Rattle.nv_machine.specs.declared.events.Accepted.{Accepted}
 use Rattle.nv_machine.specs.Machine.{ReadStep, WriteStep}
 use Rattle.nv_machine.specs.State.{Machine, base_of_life, memory_of, pending_of}
-use Rattle.split_machine.specs.OwnEvents.{looked}
-use Rattle.split_machine.specs.Telling.{AreLogsOf, laid_out, waits_told, with_note}
+use Rattle.split_module.specs.OwnEvents.{looked}
+use Rattle.split_module.specs.Telling.{AreLogsOf, laid_out, waits_told, with_note}
 use Rattle.split_module.specs.declared.front.SplitFront.{SplitFront}
 
 -- The front stands for this machine, by the logs of the channels: as many credits are out as writes wait, and it has the numbers of

@@ -1,2 +1,5 @@
+pub mod Telling
+pub mod OwnEvents
+pub mod Reads
 pub mod Lending
 pub mod Gathering

@@ -2,7 +2,7 @@ use Rattle.std.proofs.Common.{◌≡◌, ◌∙◌, ap, arith, map, refl, sym}
 use Rattle.std.specs.Arc.{arc_value}
 use Rattle.std.specs.List.{range_with_len}
 use Rattle.module_core.specs.declared.front.Front.{Front}
-use Rattle.split_machine.specs.Telling.{AreOwn}
+use Rattle.split_module.specs.Telling.{AreOwn}
 use Rattle.split_board.proofs.Beginning.{accepted_is, below_eight, count, desk_kept, few, first_ports, laid_as, lines_laid}
 use Rattle.split_board.proofs.starting.lay_out.Goals as goal
 

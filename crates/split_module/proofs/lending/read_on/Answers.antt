@@ -5,7 +5,7 @@ use Rattle.line_memory.specs.Parts.{writes_of}
 use Rattle.channel_log.specs.Log.{log_tells}
 use Rattle.channel_port.specs.Answers.{IsGot}
 use Rattle.nv_machine.specs.State.{base_of_life}
-use Rattle.split_machine.specs.Telling.{AreOwn}
+use Rattle.split_module.specs.Telling.{AreOwn}
 use Rattle.split_module.proofs.Lent.{read, tells_read}
 use Rattle.split_module.proofs.lending.read_on.Goals as goal
 

@@ -1,6 +1,6 @@
 -- All returned credits of a channel were taken back.
 use Rattle.std.proofs.Common.{All, arith, refl, subst, sym, ◌∙◌, ◌≡◌}
-use Rattle.split_machine.specs.Telling.{AreOwn}
+use Rattle.split_module.specs.Telling.{AreOwn}
 use Rattle.split_module.proofs.Lent.{looks}
 use Rattle.split_module.proofs.lending.take_back.Goals as goal
 

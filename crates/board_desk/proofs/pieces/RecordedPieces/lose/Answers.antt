@@ -6,7 +6,7 @@ use Rattle.std.proofs.Math.Logic.{∥∥₁_elim, ∥∥₁_map, ∥∥₁_prop}
 use Rattle.std.proofs.Props.{props}
 use Rattle.board_desk.specs.Calling.{loss_course}
 use Rattle.board_desk.proofs.Joined.{fits_named}
-use Rattle.split_machine.specs.Telling.{AreOwn}
+use Rattle.split_module.specs.Telling.{AreOwn}
 use Rattle.board_desk.proofs.Drained.{drains_same}
 use Rattle.board_desk.proofs.Quiet.{undrained_by}
 use Rattle.board_desk.proofs.Parted.{did, lost_restated, record_joined}

@@ -1,6 +1,6 @@
 -- What the logs of all channels tell of what waits.
-use Rattle.split_machine.proofs.ToldOf.{credits_told, full_of_reads_told, full_told, held_told}
-use Rattle.split_machine.proofs.telling.logs_tell_what_waits.Goals as goal
+use Rattle.split_module.proofs.ToldOf.{credits_told, full_of_reads_told, full_told, held_told}
+use Rattle.split_module.proofs.telling.logs_tell_what_waits.Goals as goal
 
 pub returns-clause-writes : goal.returns-clause-writes
 returns-clause-writes c = λ setup m logs channel are. full_told setup m logs are channel

@@ -31,9 +31,9 @@ use Rattle.nv_machine.proofs.Backing.{fewer_backs}
 use Rattle.nv_machine.proofs.GuardMoves.{guarded_same}
 use Rattle.nv_machine.proofs.JoinedRuns.{happens_now, join_runs, rests_here}
 use Rattle.nv_machine.proofs.Leaving.{left_after, left_before}
-use Rattle.split_machine.specs.OwnEvents.{ComesOfOwn, LeavesCandidates, is_own, looked, settled_to}
-use Rattle.split_machine.specs.Telling.{AreLogsOf, laid_out, waits_told}
-use Rattle.split_machine.proofs.ToldOf.{told_of_log, waits_noted, waits_of_log}
+use Rattle.split_module.specs.OwnEvents.{ComesOfOwn, LeavesCandidates, is_own, looked, settled_to}
+use Rattle.split_module.specs.Telling.{AreLogsOf, laid_out, waits_told}
+use Rattle.split_module.proofs.ToldOf.{told_of_log, waits_noted, waits_of_log}
 
 -- the machine where something else waits
 pub guarded_waits : (m : Machine) (waits : Waits) → IsGuarded m → IsGuarded (record m { waits = waits })

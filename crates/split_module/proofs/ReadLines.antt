@@ -39,9 +39,9 @@ use Rattle.nv_machine.specs.Rising.{added}
 use Rattle.nv_machine.specs.State.{Machine, Setup, World, all_of, base_of_life, memory_after, memory_of, start_of_life}
 use Rattle.nv_machine.proofs.EachEvent.{event_keeps, guarded_event}
 use Rattle.nv_machine.proofs.Guarded.{guarded_cut, guarded_new}
-use Rattle.split_machine.specs.Reads.{HasItsLine, ReadsHaveTheirLines}
-use Rattle.split_machine.specs.Telling.{AreLogsOf, IsToldOf, waits_told}
-use Rattle.split_machine.proofs.ToldOf.{waits_at}
+use Rattle.split_module.specs.Reads.{HasItsLine, ReadsHaveTheirLines}
+use Rattle.split_module.specs.Telling.{AreLogsOf, IsToldOf, waits_told}
+use Rattle.split_module.proofs.ToldOf.{waits_at}
 
 -- a read that was asked now
 record IsFresh (setup : Setup) (m : Machine) (read : OpenRead) : Type 0 where

@@ -9,8 +9,8 @@ ghost use Rattle.nv_machine.specs.Headline.{IsBacked, Run};
 ghost use Rattle.nv_machine.specs.State.{Setup, World};
 ghost use Rattle.nv_machine.specs.declared.events.Event.{Event};
 ghost use Rattle.nv_machine.specs.declared.events.Reply.{Reply};
-ghost use Rattle.split_machine.specs.OwnEvents.{ComesOfOwn, LeavesCandidates, looked, settled_to};
-ghost use Rattle.split_machine.specs.Telling.{AreLogsOf, AreOwn};
+ghost use Rattle.split_module.specs.OwnEvents.{ComesOfOwn, LeavesCandidates, looked, settled_to};
+ghost use Rattle.split_module.specs.Telling.{AreLogsOf, AreOwn};
 
 /// What a channel did under its own lock alone are events of the machine. Where what waits on it by now came by its own steps of what
 /// its log tells, commands of the channel and collected reads lead to the machine in which this waits (`events`). The logs tell of

@@ -19,9 +19,9 @@ use Rattle.channel_set.proofs.Piles.{any-found, any-has, count-on, from-pile, ha
 use Rattle.channel_log.specs.Log.{IsLogOf, LogNote, Told, credits_of, credits_out, log_tells, note_of, told_after, untold}
 use Rattle.channel_log.specs.declared.entry.LogEntry.{LogEntry}
 use Rattle.nv_machine.specs.State.{Machine, Setup, all_of, base_of_life, memory_after, pending_of, start_of_life}
-use Rattle.split_machine.specs.OwnEvents.{looked}
-use Rattle.split_machine.specs.Telling.{AreLogsOf, AreOwn, IsToldOf, laid_out, times_in, times_logged, waits_told, with_note}
-use Rattle.split_machine.proofs.Summing.{all_waiting, never_after, never_before, once, sum_upward, times, upward}
+use Rattle.split_module.specs.OwnEvents.{looked}
+use Rattle.split_module.specs.Telling.{AreLogsOf, AreOwn, IsToldOf, laid_out, times_in, times_logged, waits_told, with_note}
+use Rattle.split_module.proofs.Summing.{all_waiting, never_after, never_before, once, sum_upward, times, upward}
 
 pub told_push : (log : List LogNote) (note : LogNote) → log_tells (log ++ note ∷ []) ≡ told_after (log_tells log) note
 told_push log note = fold_push told_after untold log note

@@ -11,7 +11,7 @@ use Rattle.nv_machine.specs.declared.events.Event.TheVariants as events
 use Rattle.nv_machine.specs.declared.events.Reply.{Reply}
 use Rattle.nv_machine.specs.State.{Setup, World, pending_of}
 use Rattle.nv_machine.specs.Headline.{Run}
-use Rattle.split_machine.specs.Telling.{laid_out, waits_told, with_note}
+use Rattle.split_module.specs.Telling.{laid_out, waits_told, with_note}
 
 -- What a stop now leaves restores to one of the images that the machine says.
 abbrev pub LeavesCandidates : Setup → World → Type 0

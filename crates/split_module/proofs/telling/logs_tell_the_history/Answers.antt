@@ -1,7 +1,7 @@
 -- What the logs of all channels tell of a life.
 use Rattle.std.proofs.Common.{arith}
-use Rattle.split_machine.proofs.ToldOf.{line_told, told_never, told_once}
-use Rattle.split_machine.proofs.telling.logs_tell_the_history.Goals as goal
+use Rattle.split_module.proofs.ToldOf.{line_told, told_never, told_once}
+use Rattle.split_module.proofs.telling.logs_tell_the_history.Goals as goal
 
 pub returns-clause-once : goal.returns-clause-once
 returns-clause-once c = λ setup m logs number are. told_once setup m logs are number

@@ -19,9 +19,9 @@ use Rattle.channel_log.specs.Log.{IsLogOf, LogNote, log_tells, note_of}
 use Rattle.channel_log.specs.declared.entry.LogEntry.{LogEntry}
 use Rattle.nv_machine.specs.Moves.{written}
 use Rattle.nv_machine.specs.State.{Machine, Setup, all_of, start_of_life}
-use Rattle.split_machine.specs.OwnEvents.{looked}
-use Rattle.split_machine.specs.Telling.{AreLogsOf, laid_out, waits_told, with_note, with_waiting}
-use Rattle.split_machine.proofs.ToldOf.{logs_noted, own_at, told_of_log, waits_noted, waits_of_log}
+use Rattle.split_module.specs.OwnEvents.{looked}
+use Rattle.split_module.specs.Telling.{AreLogsOf, laid_out, waits_told, with_note, with_waiting}
+use Rattle.split_module.proofs.ToldOf.{logs_noted, own_at, told_of_log, waits_noted, waits_of_log}
 
 module _ (setup : Setup) (m : Machine) (logs : List (List LogNote)) (are : AreLogsOf setup m logs) (channel : ℕ) (log : List LogNote) (of : IsLogOf logs channel log) where
   abbrev here : Waits

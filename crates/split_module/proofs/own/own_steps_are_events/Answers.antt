@@ -1,9 +1,9 @@
 -- A channel's own steps as events of the machine.
 use Rattle.nv_machine.proofs.Backing.{fewer_backs}
 use Rattle.nv_machine.proofs.JoinedRuns.{join_runs}
-use Rattle.split_machine.proofs.OwnRuns.{came_run, guarded_waits}
-use Rattle.split_machine.proofs.ToldOf.{logs_looked}
-use Rattle.split_machine.proofs.own.own_steps_are_events.Goals as goal
+use Rattle.split_module.proofs.OwnRuns.{came_run, guarded_waits}
+use Rattle.split_module.proofs.ToldOf.{logs_looked}
+use Rattle.split_module.proofs.own.own_steps_are_events.Goals as goal
 
 pub returns-clause-events : goal.returns-clause-events
 returns-clause-events c = came_run

@@ -4,8 +4,8 @@ ghost use Rattle.channel_log.specs.Log.{LogNote, log_tells};
 ghost use Rattle.channel_log.specs.ReadLines.{ReadsHaveLines};
 ghost use Rattle.nv_machine.specs.Lives.{LivedUntil};
 ghost use Rattle.nv_machine.specs.State.{Machine, Setup, World, base_of_life};
-ghost use Rattle.split_machine.specs.Reads.{ReadsHaveTheirLines};
-ghost use Rattle.split_machine.specs.Telling.{AreLogsOf};
+ghost use Rattle.split_module.specs.Reads.{ReadsHaveTheirLines};
+ghost use Rattle.split_module.specs.Telling.{AreLogsOf};
 
 /// Each open read of a life so far has its line of the memory after the writes that had been accepted when it was asked (`machine`).
 /// So has each read that a channel's log tells to wait, by the writes of that log (`logs`).

@@ -13,8 +13,8 @@ ghost use Rattle.channel_set.specs.Carrying.{WaitsFrom};
 ghost use Rattle.nv_machine.specs.Moves.{written};
 ghost use Rattle.nv_machine.specs.State.{Machine, Setup};
 ghost use Rattle.nv_machine.specs.State.{all_of, base_of_life, memory_after, pending_of, start_of_life};
-ghost use Rattle.split_machine.specs.OwnEvents.{looked};
-ghost use Rattle.split_machine.specs.Telling.{AreLogsOf, laid_out, times_logged, waits_told, with_note, with_waiting};
+ghost use Rattle.split_module.specs.OwnEvents.{looked};
+ghost use Rattle.split_module.specs.Telling.{AreLogsOf, laid_out, times_logged, waits_told, with_note, with_waiting};
 
 /// What a write that is accepted makes of what the logs tell, where it is noted with what waits on its channel then: it waits behind the
 /// writes of its channel and of those before it (`puts`), and the logs tell of the machine whose life has it (`logs`).

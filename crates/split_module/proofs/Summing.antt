@@ -9,7 +9,7 @@ use Rattle.line_memory.specs.declared.Write.{Write}
 use Rattle.line_memory.specs.declared.parts.Numbered.{Numbered}
 use Rattle.channel_port.specs.Waits.{is_write_on, writes_on}
 use Rattle.channel_port.specs.declared.waiting.Waiting.{Waiting}
-use Rattle.split_machine.proofs.Counted.{counted}
+use Rattle.split_module.proofs.Counted.{counted}
 
 abbrev pub upward : (ℕ → ℕ) → ℕ → ℕ → ℕ
 upward f k zero = 0
