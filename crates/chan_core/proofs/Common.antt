@@ -15,15 +15,15 @@ unfoldable pub use Rattle.ddr4_timing.specs.Lawful.{is_asleep, last_ref}
 pub use Rattle.ddr4_timing.specs.Places.{LiesIn}
 pub use Rattle.bank_core.specs.Stands.{BanksState, Stands}
 pub use Rattle.frfcfs.specs.declared.next.Next.{Next}
-pub use Rattle.frfcfs.specs.declared.pending.Kind.{Kind}
-pub use Rattle.frfcfs.specs.declared.pending.Kind.TheVariants.{Read, Write}
-pub use Rattle.frfcfs.specs.declared.pending.Pending.{Pending}
+pub use Rattle.request_notes.specs.declared.pending.Kind.{Kind}
+pub use Rattle.request_notes.specs.declared.pending.Kind.TheVariants.{Read, Write}
+pub use Rattle.request_notes.specs.declared.pending.Pending.{Pending}
 pub use Rattle.frfcfs.specs.Candidates.{IsCandidate, OfColumn, OfRank, OfRow, Turn}
 pub use Rattle.frfcfs.specs.Margin.{AreAsleep, IsIdle, KeepsMargin}
 unfoldable pub use Rattle.frfcfs.specs.Margin.{last_clock}
 pub use Rattle.frfcfs.specs.Next.{IsNext}
 pub use Rattle.frfcfs.specs.Queue.{Waiting, held_by, is_held, is_write, numbered_from, writes_among}
-pub use Rattle.frfcfs.specs.Requests.{AreInOrder, IsEligible, column_of}
+pub use Rattle.request_notes.specs.Requests.{AreInOrder, IsEligible, column_of}
 unfoldable pub use Rattle.interleave_map.specs.Cells.{cell_of, cells_of}
 pub use Rattle.wpq_core.specs.declared.queue.PendingWrite.{PendingWrite}
 pub use Rattle.wpq_core.specs.PendingMemory.{after_pending, data_or}

@@ -3,7 +3,7 @@ use Rattle.std.specs.Prelude.{◌≡◌, ℕ, ◌<◌, ◌≤◌, ◌^◌, List,
 use Rattle.std.specs.List.{filter_map}
 use Rattle.line_memory.specs.Memory.{IsMemory}
 use Rattle.ddr4_timing.specs.Lawful.{IsLawful}
-use Rattle.frfcfs.specs.Requests.{AreInOrder}
+use Rattle.request_notes.specs.Requests.{AreInOrder}
 use Rattle.wpq_core.specs.Queue.{IsWriteQueue}
 use Rattle.interleave_map.specs.Cells.{cells_of}
 use Rattle.chan_core.specs.Reads.{OpenTicket}

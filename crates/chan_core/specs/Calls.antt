@@ -2,13 +2,13 @@
 use Rattle.std.specs.Prelude.{◌≡◌, ◌≢◌, ℕ, ◌+◌, ◌<◌, ◌≤◌, ◌⊎◌, ◌^◌, Result, Ok, Err, Bool, true, false, List, [], ◌∷◌, ◌++◌, All, length, map, remove, slice_get, slice_set, slice_index_or, Option, Some, None}
 use Rattle.ddr4_timing.specs.declared.command.Stamped.{Stamped}
 use Rattle.ddr4_timing.specs.declared.place.Place.{Place}
-use Rattle.frfcfs.specs.declared.pending.Kind.{Kind}
-use Rattle.frfcfs.specs.declared.pending.Kind.TheVariants.{Read, Write}
-use Rattle.frfcfs.specs.declared.pending.Pending.{Pending}
+use Rattle.request_notes.specs.declared.pending.Kind.{Kind}
+use Rattle.request_notes.specs.declared.pending.Kind.TheVariants.{Read, Write}
+use Rattle.request_notes.specs.declared.pending.Pending.{Pending}
 use Rattle.frfcfs.specs.Margin.{IsIdle}
 use Rattle.frfcfs.specs.Next.{IsNext}
 use Rattle.frfcfs.specs.Queue.{held_by, is_held}
-use Rattle.frfcfs.specs.Requests.{IsEligible}
+use Rattle.request_notes.specs.Requests.{IsEligible}
 use Rattle.wpq_core.specs.declared.queue.PendingWrite.{PendingWrite}
 use Rattle.wpq_core.specs.Writes.{IsFirstOfItsLine, IsNewest, NoWriteNames, TakesWrite, pending_write}
 use Rattle.channel_port.specs.declared.answers.Got.{Got}

@@ -9,7 +9,7 @@ use Rattle.ddr4_timing.specs.Command.{rank_of}
 use Rattle.ddr4_timing.specs.Floors.{least_clock}
 use Rattle.ddr4_timing.specs.Lawful.{IsLawful, KeepsRows, last_ref, open_row, with_command}
 use Rattle.ddr4_timing.specs.Places.{bank_at}
-use Rattle.frfcfs.specs.declared.pending.Kind.TheVariants.{Write}
+use Rattle.request_notes.specs.declared.pending.Kind.TheVariants.{Write}
 use Rattle.wpq_core.specs.PendingMemory.{after_pending}
 use Rattle.chan_core.specs.declared.phase.Phase.TheVariants.{Running}
 use Rattle.chan_core.specs.Phases.{TellsSleep}

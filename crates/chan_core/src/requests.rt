@@ -8,11 +8,11 @@ use crate::channel::Channel;
 use crate::reads::{OpenRead, ReadsFull, index_of_serial};
 use channel_port::{Collected, Got, Ticket};
 use ddr4_timing::place::Place;
-use frfcfs::pending::Kind;
 use frfcfs::queue::is_held;
 use interleave_map::cells::cell_of;
 use interleave_map::line_map::LineMap;
 use line_memory::{Line, Write};
+use request_notes::pending::Kind;
 use wpq_core::{PendingWrite, QueueFull};
 
 impl Channel {

@@ -7,7 +7,7 @@ use Rattle.energy_budget.specs.declared.costs.CostNumbers.{CostNumbers}
 use Rattle.energy_budget.specs.Actions.{drain_actions, total_cost}
 use Rattle.energy_budget.specs.Costs.{AreReckonedFor, close_cost, entry_cost}
 use Rattle.energy_budget.proofs.Totals.{cost-drain_actions}
-use Rattle.frfcfs.specs.declared.pending.Pending.{Pending}
+use Rattle.request_notes.specs.declared.pending.Pending.{Pending}
 use Rattle.frfcfs.specs.Queue.{held_by}
 use Rattle.chan_core.specs.Always.{HasRightContents}
 use Rattle.chan_core.specs.State.{placed_write, placed_writes}

@@ -5,7 +5,7 @@ use Rattle.ddr4_port.proofs.Common.{cell_in, channel_memory, line_at, line_below
 use Rattle.ddr4_port.proofs.Common.{waits_of}
 use Rattle.line_memory.specs.Parts.{below, writes_of}
 use Rattle.ddr4_timing.specs.declared.command.Stamped.{Stamped}
-use Rattle.frfcfs.specs.declared.pending.Pending.{Pending}
+use Rattle.request_notes.specs.declared.pending.Pending.{Pending}
 use Rattle.chan_core.specs.declared.phase.Phase.{Phase}
 use Rattle.chan_core.specs.Reads.{OpenTicket}
 use Rattle.chan_core.proofs.Below.{below-none}

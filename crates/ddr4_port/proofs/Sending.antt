@@ -8,7 +8,7 @@ use Rattle.ddr4_timing.specs.declared.command.Command.{Command}
 use Rattle.ddr4_timing.specs.declared.command.Stamped.{Stamped}
 use Rattle.frfcfs.specs.Candidates.{IsLeast}
 use Rattle.frfcfs.specs.Next.{IsNext}
-use Rattle.frfcfs.specs.Requests.{AreInOrder}
+use Rattle.request_notes.specs.Requests.{AreInOrder}
 use Rattle.frfcfs.proofs.ChoiceLaws.{one_choice}
 
 -- of two first clocks with a candidate neither is before the other

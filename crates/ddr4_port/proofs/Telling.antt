@@ -9,7 +9,7 @@ use Rattle.ddr4_port.proofs.Common.{IsNeverGiven, IsNewTicket, IssuesChoice, Ope
 use Rattle.ddr4_port.proofs.Common.{ServesRequest, after_get, before_removal, line_at, map-append, map-remove}
 use Rattle.ddr4_port.proofs.Common.{open_on, ticket_on, waiting, waiting_on, waits_of}
 use Rattle.frfcfs.proofs.Lists.{All-at}
-use Rattle.frfcfs.specs.declared.pending.Pending.{Pending}
+use Rattle.request_notes.specs.declared.pending.Pending.{Pending}
 use Rattle.channel_port.specs.declared.answers.Collected.{Collected}
 use Rattle.channel_port.specs.declared.answers.Collected.TheVariants as collected
 use Rattle.channel_port.specs.declared.answers.Got.{Got}

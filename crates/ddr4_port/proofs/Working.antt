@@ -4,7 +4,7 @@ use Rattle.ddr4_port.proofs.Common.{Carries, ChannelState, Done, HasRightContent
 use Rattle.ddr4_port.proofs.Common.{MovesWrite, Numbered, PendingWrite, Place, ServesIndex, ServesRequest, WaitFrom}
 use Rattle.ddr4_port.proofs.Common.{after_command, after_write, cases_order, channel_memory, memory_below, waiting_on}
 use Rattle.ddr4_port.proofs.Common.{waits_of}
-use Rattle.frfcfs.specs.declared.pending.Pending.{Pending}
+use Rattle.request_notes.specs.declared.pending.Pending.{Pending}
 use Rattle.wpq_core.specs.PendingMemory.{after_pending}
 use Rattle.channel_port.specs.declared.answers.Served.{Served}
 use Rattle.channel_port.specs.declared.answers.Served.TheVariants as served

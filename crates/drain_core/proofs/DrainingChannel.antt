@@ -10,9 +10,9 @@ use Rattle.drain_core.proofs.Common.{most_clocks, nil_from_length, pending_place
 use Rattle.drain_core.proofs.Common.{progress_of, spent_by}
 use Rattle.energy_budget.specs.declared.costs.Costs.{Costs}
 use Rattle.energy_budget.specs.Costs.{AreReckonedFor, close_cost, entry_cost}
-use Rattle.frfcfs.specs.declared.pending.Kind.{Kind}
-use Rattle.frfcfs.specs.declared.pending.Kind.TheVariants.{Read, Write}
-use Rattle.frfcfs.specs.declared.pending.Pending.{Pending}
+use Rattle.request_notes.specs.declared.pending.Kind.{Kind}
+use Rattle.request_notes.specs.declared.pending.Kind.TheVariants.{Read, Write}
+use Rattle.request_notes.specs.declared.pending.Pending.{Pending}
 use Rattle.frfcfs.proofs.Lists.{All-at}
 use Rattle.wpq_core.specs.declared.queue.PendingWrite.{PendingWrite}
 use Rattle.wpq_core.specs.PendingMemory.{after_pending}

@@ -4,9 +4,9 @@ use Rattle.std.specs.List.{All, filter_map, cons_option}
 use Rattle.std.proofs.lemmas.Option.{slice_get-get_or}
 use Rattle.drain_core.proofs.Common.{ChannelState, Geometry, LiesIn, Place, length-map, nil_from_length, pending_places}
 use Rattle.drain_core.proofs.Common.{placed, placed_write, placed_writes}
-use Rattle.frfcfs.specs.declared.pending.Kind.{Kind}
-use Rattle.frfcfs.specs.declared.pending.Kind.TheVariants.{Read, Write}
-use Rattle.frfcfs.specs.declared.pending.Pending.{Pending}
+use Rattle.request_notes.specs.declared.pending.Kind.{Kind}
+use Rattle.request_notes.specs.declared.pending.Kind.TheVariants.{Read, Write}
+use Rattle.request_notes.specs.declared.pending.Pending.{Pending}
 use Rattle.frfcfs.proofs.Lists.{All-at}
 use Rattle.chan_core.specs.Always.{HasRightContents}
 use Rattle.chan_core.specs.Contents.{IsRightRequest, queued_key, write_key, write_of}

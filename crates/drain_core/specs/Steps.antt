@@ -8,7 +8,7 @@ use Rattle.ddr4_timing.specs.Lawful.{KeepsRows, last_ref}
 use Rattle.ddr4_timing.specs.Command.{rank_of}
 use Rattle.ddr4_timing.specs.declared.command.Command.{Command}
 use Rattle.ddr4_timing.specs.declared.timing.Checked.{Checked}
-use Rattle.frfcfs.specs.declared.pending.Kind.TheVariants.{Write}
+use Rattle.request_notes.specs.declared.pending.Kind.TheVariants.{Write}
 use Rattle.frfcfs.specs.Margin.{AreAsleep}
 use Rattle.energy_budget.specs.declared.costs.CostNumbers.{CostNumbers}
 use Rattle.energy_budget.specs.CostNumbers.{command_cost}

@@ -17,16 +17,17 @@ pub use Rattle.ddr4_timing.specs.Places.{HasBank, LiesIn, bank_at, bank_index}
 pub use Rattle.bank_core.specs.Stands.{Allows, BanksState, Stands, with_command}
 pub use Rattle.frfcfs.specs.declared.best.Best.{Best}
 pub use Rattle.frfcfs.specs.declared.best.Bests.{Bests}
-pub use Rattle.frfcfs.specs.declared.key.Key.{Key}
+pub use Rattle.request_notes.specs.declared.key.Key.{Key}
 pub use Rattle.frfcfs.specs.declared.next.Next.{Next}
-pub use Rattle.frfcfs.specs.declared.pending.Kind.{Kind}
-pub use Rattle.frfcfs.specs.declared.pending.Kind.TheVariants.{Read, Write}
-pub use Rattle.frfcfs.specs.declared.pending.Pending.{Pending}
+pub use Rattle.request_notes.specs.declared.pending.Kind.{Kind}
+pub use Rattle.request_notes.specs.declared.pending.Kind.TheVariants.{Read, Write}
+pub use Rattle.request_notes.specs.declared.pending.Pending.{Pending}
 pub use Rattle.frfcfs.specs.Candidates.{HasNoCandidate, IsCandidate, IsChoice, IsInLead, IsLeast, IsNotAfter, IsUnhit, MayHave, OfColumn, OfRank, OfRow, OffersRank, Turn, WantsColumn, WantsRow, class_of, tie_break_of}
-pub use Rattle.frfcfs.specs.Keys.{AreKeys, AreKeysIn, AreToldBy, IsKeyOf, bank_number, firsts_of, place_of}
+pub use Rattle.frfcfs.specs.Keys.{AreKeys, AreKeysIn, AreToldBy, IsKeyOf, firsts_of}
+pub use Rattle.request_notes.specs.KeyPlaces.{bank_number, place_of}
 pub use Rattle.frfcfs.specs.Margin.{AreAsleep, HasTime, IsIdle, KeepsMargin, MayClose, MayRefresh, close_clock, commands_before, lead_clock, refresh_clock, row_time}
 unfoldable pub use Rattle.frfcfs.specs.Margin.{above, last_clock}
 pub use Rattle.frfcfs.specs.Next.{HasWork, IsNext, IsNextIn, ServesInTurn}
 pub use Rattle.frfcfs.specs.Queue.{AreFirsts, IsFirstAt, KeepsRequests, IsOldestOf, IsWaiting, MarksOldest, Waiting, held_by, is_held, marked_at, numbered_from}
-pub use Rattle.frfcfs.specs.Requests.{AreInOrder, IsEligible, IsFirst, act_of, column_of, pre_of}
+pub use Rattle.request_notes.specs.Requests.{AreInOrder, IsEligible, IsFirst, act_of, column_of, pre_of}
 pub use Rattle.frfcfs.specs.Search.{AreAllBestInTurn, AreBest, AreBestInTurn, AreFound, AreHits, AreMarks, HasHit, IsBest, IsBetter, IsEnd, IsRankNext, IsRankNextAt, IsSoonerOf, Takes, limit_of}

@@ -3,7 +3,7 @@ use Rattle.std.proofs.Common.{◌≡◌, ℕ, ◌<◌, ◌≤◌, List, Some, tr
 use Rattle.std.proofs.lemmas.Bool.{cases_lt, cases_order}
 use Rattle.std.proofs.lemmas.Option.{get_or_from_slice_get, slice_get-get_or, slice_get_within}
 use Rattle.std.specs.List.Sorted.{IsPartitionPoint}
-use Rattle.frfcfs.specs.Notes.{SeqsRise}
+use Rattle.request_notes.specs.Notes.{SeqsRise}
 use Rattle.frfcfs.proofs.Common.{Key}
 
 -- they are those below one and then the others

@@ -5,8 +5,8 @@ use Rattle.std.proofs.lemmas.List.{length-map, map-append}
 use Rattle.gap_list.specs.Bounded.{Bounded}
 use Rattle.frfcfs.specs.LineCounts.{AreCounts}
 use Rattle.frfcfs.specs.declared.line_counts.LineCounts.{LineCounts}
-use Rattle.frfcfs.specs.declared.notebook.Notebook.{Notebook}
-use Rattle.frfcfs.specs.Notebook.{KeepsNotes}
+use Rattle.request_notes.specs.declared.notebook.Notebook.{Notebook}
+use Rattle.request_notes.specs.Notebook.{KeepsNotes}
 use Rattle.frfcfs.proofs.Common.{AreKeys, AreToldBy, IsKeyOf, KeepsRequests, Key, MarksOldest, Pending, Waiting, firsts_of, held_by, numbered_from}
 use Rattle.frfcfs.proofs.KeepLemmas.{lines_numbered, waiting_numbered}
 use Rattle.frfcfs.proofs.KeyLemmas.{firsts_remove, keys_held, keys_numbered, keys_push, keys_remove, new_line, oldest_key}

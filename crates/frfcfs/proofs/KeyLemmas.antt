@@ -7,13 +7,14 @@ use Rattle.std.proofs.lemmas.List.Edits.{length-remove}
 use Rattle.std.specs.List.{drop-map, take-map}
 use Rattle.std.proofs.lemmas.Option.{get_or_from_slice_get, slice_get-get_or, slice_get_within}
 use Rattle.ddr4_timing.proofs.Addresses.{same_address}
-use Rattle.frfcfs.specs.Notes.{IsMarked}
+use Rattle.request_notes.specs.Notes.{IsMarked}
 use Rattle.frfcfs.specs.Scan.{flag_of}
 use Rattle.frfcfs.proofs.Common.{AreKeys, AreKeysIn, AreToldBy, BankAddress, Geometry, IsKeyOf, IsOldestOf, IsSmall, Key, Kind, LiesIn, Pending, bank_at, bank_index, bank_number, firsts_of, held_by, numbered_from, place_of}
 use Rattle.frfcfs.proofs.HitLemmas.{IsLook}
 use Rattle.frfcfs.proofs.KeepLemmas.{length-numbered, numbered_at}
 use Rattle.frfcfs.proofs.Lists.{something_at}
-use Rattle.frfcfs.proofs.QueueLemmas.{IsOldestAt, get_or-stood, line_at, lines, stood}
+use Rattle.frfcfs.proofs.QueueLemmas.{IsOldestAt, line_at, lines}
+use Rattle.request_notes.proofs.Stood.{get_or-stood, stood}
 
 -- what a key says of its request, which lies in the geometry
 

@@ -4,7 +4,7 @@ use Rattle.std.proofs.lemmas.List.{get_or-map, length-map}
 use Rattle.std.proofs.lemmas.Option.{get_or_from_slice_get, slice_get_within}
 use Rattle.ddr4_timing.proofs.Addresses.{same_address}
 use Rattle.frfcfs.specs.NotedLook.{address_of}
-use Rattle.frfcfs.specs.Notes.{IsOfBank, SeqsRise}
+use Rattle.request_notes.specs.Notes.{IsOfBank, SeqsRise}
 use Rattle.frfcfs.proofs.Common.{AreInOrder, AreKeys, AreKeysIn, Geometry, IsEligible, IsKeyOf, IsSmall, Key, LiesIn, Pending, bank_at, bank_index}
 use Rattle.frfcfs.proofs.KeyLemmas.{key_index, key_there}
 use Rattle.frfcfs.proofs.Lists.{order_at, something_at}

@@ -6,7 +6,6 @@ pub mod HitLemmas
 pub mod BestRequests
 pub mod ScanLemmas
 pub mod ScanOthers
-pub mod BankBits
 pub mod RankOffers
 pub mod NextChoice
 pub mod ChoiceLaws
@@ -14,7 +13,6 @@ pub mod QueueLemmas
 pub mod KeyLemmas
 pub mod CountLemmas
 pub mod KeepLemmas
-pub mod NoteLemmas
 pub mod KeyRequests
 pub mod SoonLemmas
 pub mod SoonBanks

@@ -1,5 +1,5 @@
 -- Queues that grow, shrink and are held, and what their marks say.
-use Rattle.std.proofs.Common.{if◌then◌else◌, ltb, ◌≡◌, ◌≢◌, ℕ, ◌+◌, ◌-◌, ◌<◌, ◌≤◌, ◌↔◌, ◌⊎◌, List, [], ◌∷◌, ◌++◌, Bool, IsTrue, true, false, Option, Some, None, inl, inr, refl, sym, subst, ap, ◌∙◌, arith, map, take, drop, length, length-append, get_or, set, get_or-set_same, get_or-set_other, All, remove, slice_get}
+use Rattle.std.proofs.Common.{◌≡◌, ◌≢◌, ℕ, ◌+◌, ◌-◌, ◌<◌, ◌≤◌, ◌↔◌, ◌⊎◌, List, [], ◌∷◌, ◌++◌, Bool, IsTrue, true, false, Option, Some, None, inl, inr, refl, sym, subst, ap, ◌∙◌, arith, map, take, drop, length, length-append, get_or, set, get_or-set_same, get_or-set_other, All, remove, slice_get}
 use Rattle.std.proofs.Math.ListN.{get_or-append}
 use Rattle.std.proofs.lemmas.Bool.{cases_eq, cases_order}
 use Rattle.std.specs.List.{drop-map, take-map}
@@ -11,6 +11,7 @@ use Rattle.std.proofs.lemmas.List.Quantifiers.{all_pairs_push, all_pairs_remove}
 use Rattle.std.proofs.lemmas.Option.{slice_get_within, get_or_from_slice_get}
 use Rattle.frfcfs.proofs.Common.{AreFirsts, AreInOrder, AreMarks, Geometry, IsFirst, IsFirstAt, IsWaiting, LiesIn, Pending, Waiting, held_by, is_held, marked_at}
 use Rattle.frfcfs.proofs.Lists.{All-at}
+use Rattle.request_notes.proofs.Stood.{get_or-stood, stood}
 
 -- the lines of requests
 abbrev pub lines : List Pending → List ℕ
@@ -51,13 +52,6 @@ request_push pending p firsts b marks none =
     each i within = grind (arith, marks.size, marks.each i, here, length-append, get_or-append, get_or_push)
 
 -- one taken out, and the next one of its line marked
-
--- the place at which an element stood before the i-th was taken out
-abbrev pub stood : ℕ → ℕ → ℕ
-stood i k = if ltb k i then k else k + 1
-
-pub get_or-stood : {X : Type 0} (xs : List X) (i k : ℕ) (d : X) → i < length xs → get_or (remove xs i) k d ≡ get_or xs (stood i k) d
-get_or-stood xs i k d within = grind (arith, get_or-remove_below, get_or-remove_above)
 
 still_first : (xs : List ℕ) (i k : ℕ) → i < length xs → IsFirstAt xs (stood i k) → IsFirstAt (remove xs i) k
 still_first xs i k within first = grind (arith, get_or-stood xs i k 0 within, λ (j : ℕ). get_or-stood xs i j 0 within)

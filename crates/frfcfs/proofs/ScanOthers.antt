@@ -4,11 +4,11 @@ use Rattle.std.proofs.lemmas.Bool.{cases_eq, cases_lt}
 use Rattle.std.proofs.lemmas.List.{get_or-replicate}
 use Rattle.std.proofs.lemmas.Option.{slice_get_within}
 use Rattle.ddr4_timing.proofs.Ready.{ready_lawful}
-use Rattle.frfcfs.specs.BankSets.{Has, IsOneTaken}
+use Rattle.request_notes.specs.BankSets.{Has, IsOneTaken}
 use Rattle.frfcfs.specs.Candidates.{IsOtherOpen}
 use Rattle.frfcfs.specs.Scan.{AreScanned, IsMet, IsOlderBetter, IsPassed, IsScanFound, WantsAct, WantsRowBut, flag_of}
 use Rattle.frfcfs.specs.Search.{IsEligibleIn, IsFound, no_bests}
-use Rattle.frfcfs.specs.declared.bank_set.BankSet.{BankSet}
+use Rattle.request_notes.specs.declared.bank_set.BankSet.{BankSet}
 use Rattle.frfcfs.specs.declared.scan.Scan.{Scan}
 use Rattle.frfcfs.proofs.BestRequests.{best_skip, class_skip}
 use Rattle.frfcfs.proofs.Common.{BankAddress, Best, Checked, Command, Geometry, HasBank, IsBest, IsEligible, IsEnd, IsInGeometry, IsLawful, IsUnhit, Kind, Pending, Pre, Stamped, Takes, WantsColumn, WantsRow, bank_at, bank_index, least_clock, open_row, pre_of, rank_of}

@@ -1,12 +1,12 @@
 -- The soonest requests by their seqs, where one bank more was looked at.
 use Rattle.std.proofs.Common.{◌≡◌, ◌≢◌, ℕ, ◌/◌, ◌%◌, ◌⊎◌, max, List, Option, None, Some, inl, inr, refl, sym, subst, ap, ◌∙◌, arith}
 use Rattle.std.proofs.lemmas.Bool.{cases_eq}
-use Rattle.frfcfs.specs.BankSets.{IsOneTaken}
+use Rattle.request_notes.specs.BankSets.{IsOneTaken}
 use Rattle.frfcfs.specs.NotedLook.{IsNoted, IsPast, IsPastOrRead, IsSooner, IsSoonest, TakesBySeq, WantsSeen, address_of}
-use Rattle.frfcfs.specs.Notes.{IsHit, IsOfBank, IsOldestSeq}
-use Rattle.frfcfs.specs.declared.bank_set.BankSet.{BankSet}
+use Rattle.request_notes.specs.Notes.{IsHit, IsOfBank, IsOldestSeq}
+use Rattle.request_notes.specs.declared.bank_set.BankSet.{BankSet}
 use Rattle.frfcfs.specs.declared.noted_look.Soon.{Soon}
-use Rattle.frfcfs.specs.declared.notes.Note.{Note}
+use Rattle.request_notes.specs.declared.notes.Note.{Note}
 use Rattle.frfcfs.proofs.Common.{Act, BankAddress, Checked, Command, IsEligible, IsEnd, IsKeyOf, IsLawful, IsUnhit, Key, Kind, LiesIn, Pending, Place, Pre, Read, Stamped, WantsColumn, WantsRow, Write, act_of, bank_at, bank_index, column_of, least_clock, open_row, pre_of}
 use Rattle.frfcfs.proofs.ScanLemmas.{act_clock, column_clock}
 use Rattle.frfcfs.proofs.Wants.{IsWish, column_in, wishes_act, wishes_column, wishes_pre}

@@ -2,14 +2,14 @@
 use Rattle.std.proofs.Common.{◌≡◌, ◌≢◌, ℕ, ◌<◌, ◌≤◌, ◌↔◌, List, Bool, IsTrue, true, false, Option, None, Some, All, inl, inr, refl, sym, subst, ap, ◌∙◌, arith, length, not, slice_get}
 use Rattle.std.proofs.lemmas.Bool.{cases_lt}
 use Rattle.std.proofs.lemmas.Option.{get_or_from_slice_get, slice_get-get_or, slice_get_within}
-use Rattle.frfcfs.specs.BankSets.{Has}
+use Rattle.request_notes.specs.BankSets.{Has}
 use Rattle.frfcfs.specs.NotedLook.{AreSoonest, AreSoonestBut, IsNotedFound, IsPast, IsSoonest, TakesBySeq, WantsSeen, address_of}
-use Rattle.frfcfs.specs.Notes.{AreNotes, IsOfBank, IsOldestSeq, SeqsRise, note_of}
+use Rattle.request_notes.specs.Notes.{AreNotes, IsOfBank, IsOldestSeq, SeqsRise, note_of}
 use Rattle.frfcfs.specs.Search.{HasEligibleIn, IsFound}
-use Rattle.frfcfs.specs.declared.bank_set.BankSet.{BankSet}
+use Rattle.request_notes.specs.declared.bank_set.BankSet.{BankSet}
 use Rattle.frfcfs.specs.declared.noted_look.NotedLook.{NotedLook}
 use Rattle.frfcfs.specs.declared.noted_look.Soon.{Soon}
-use Rattle.frfcfs.specs.declared.notes.Notes.{Notes}
+use Rattle.request_notes.specs.declared.notes.Notes.{Notes}
 use Rattle.frfcfs.proofs.Common.{AreKeys, AreKeysIn, Best, Checked, Command, Geometry, HasBank, IsBest, IsEligible, IsSmall, Key, LiesIn, Pending, Stamped, Takes, WantsColumn, WantsRow, bank_at, place_of}
 use Rattle.frfcfs.proofs.HitLemmas.{index_small}
 use Rattle.frfcfs.proofs.KeyLemmas.{key_there}

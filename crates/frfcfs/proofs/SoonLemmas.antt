@@ -1,9 +1,9 @@
 -- The soonest requests by their seqs, where more were looked at.
 use Rattle.std.proofs.Common.{◌≡◌, ◌≢◌, ℕ, ◌<◌, ◌≤◌, ◌⊎◌, max, List, Some, inl, inr, refl, sym, subst, ap, ◌∙◌, arith}
 use Rattle.ddr4_timing.proofs.Ready.{ready_lawful}
-use Rattle.frfcfs.specs.BankSets.{Has, IsOneTaken}
+use Rattle.request_notes.specs.BankSets.{Has, IsOneTaken}
 use Rattle.frfcfs.specs.NotedLook.{IsSooner, IsSoonest, TakesBySeq, WantsSeen}
-use Rattle.frfcfs.specs.declared.bank_set.BankSet.{BankSet}
+use Rattle.request_notes.specs.declared.bank_set.BankSet.{BankSet}
 use Rattle.frfcfs.specs.declared.noted_look.Soon.{Soon}
 use Rattle.frfcfs.proofs.Common.{Checked, Command, IsEligible, IsEnd, IsInGeometry, IsLawful, Pending, Stamped, least_clock}
 use Rattle.frfcfs.proofs.Lists.{one_at}

@@ -10,8 +10,8 @@ use Rattle.ddr4_timing.specs.declared.timing.Checked.{Checked}
 use Rattle.ddr4_timing.specs.Lawful.{open_row, ref_count, IsLawful}
 use Rattle.ddr4_timing.specs.Places.{bank_at}
 use Rattle.bank_core.specs.Stands.{with_command}
-use Rattle.frfcfs.specs.declared.pending.Pending.{Pending}
-use Rattle.frfcfs.specs.Requests.{IsEligible, column_of, act_of, pre_of}
+use Rattle.request_notes.specs.declared.pending.Pending.{Pending}
+use Rattle.request_notes.specs.Requests.{IsEligible, column_of, act_of, pre_of}
 
 -- Eight or more REF of the rank are owed at the clock.
 abbrev pub IsInLead : Timing → List Stamped → ℕ → ℕ → Type 0

@@ -1,18 +1,10 @@
 -- What a queue keeps of each request for the choice.
-use Rattle.std.specs.Prelude.{◌≡◌, ℕ, ◌+◌, ◌*◌, ◌/◌, ◌%◌, ◌<◌, Bool, List, length, map, slice_index_or}
-use Rattle.ddr4_timing.specs.declared.place.Place.{Place}
+use Rattle.std.specs.Prelude.{◌≡◌, ℕ, ◌<◌, Bool, List, length, map, slice_index_or}
 use Rattle.ddr4_timing.specs.declared.timing.Geometry.{Geometry}
-use Rattle.frfcfs.specs.declared.key.Key.{Key}
-use Rattle.frfcfs.specs.declared.pending.Pending.{Pending}
+use Rattle.request_notes.specs.declared.key.Key.{Key}
+use Rattle.request_notes.specs.declared.pending.Pending.{Pending}
 use Rattle.frfcfs.specs.Search.{AreMarks}
-
--- where a place's bank stands in a table of 64, also where no geometry has the place
-abbrev pub bank_number : Place → ℕ
-bank_number p = p.rank % 4 * 16 + p.group % 4 * 4 + p.bank % 4
-
--- the first place of the row that a key names
-abbrev pub place_of : Key → Place
-place_of k = record { channel = 0; rank = k.bank / 16; group = k.bank / 4 % 4; bank = k.bank % 4; row = k.row; column = 0 }
+use Rattle.request_notes.specs.KeyPlaces.{bank_number}
 
 -- The key is the request's.
 pub record IsKeyOf (p : Pending) (k : Key) : Type 0 where

@@ -1,13 +1,9 @@
-pub mod Requests
 pub mod Keys
-pub mod Notes
-pub mod Notebook
 pub mod LineCounts
 pub mod Queue
 pub mod Candidates
 pub mod Next
 pub mod Search
-pub mod BankSets
 pub mod Scan
 pub mod NotedLook
 pub mod Margin

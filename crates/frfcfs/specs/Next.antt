@@ -2,9 +2,9 @@
 use Rattle.std.specs.Prelude.{◌≡◌, ℕ, ◌-◌, ◌<◌, ◌≤◌, ◌⊎◌, ◌^◌, List, slice_get, Option, Some, None}
 use Rattle.ddr4_timing.specs.declared.command.Stamped.{Stamped}
 use Rattle.ddr4_timing.specs.declared.timing.Checked.{Checked}
-use Rattle.frfcfs.specs.declared.pending.Pending.{Pending}
+use Rattle.request_notes.specs.declared.pending.Pending.{Pending}
 use Rattle.frfcfs.specs.declared.next.Next.{Next}
-use Rattle.frfcfs.specs.Requests.{IsEligible}
+use Rattle.request_notes.specs.Requests.{IsEligible}
 use Rattle.frfcfs.specs.Candidates.{IsInLead, Turn, OfRank, OfColumn, OfRow, HasNoCandidate, IsLeast}
 
 -- which request is served in a turn: that of a RD or WR, by its place in the list

@@ -7,17 +7,17 @@ use Rattle.ddr4_timing.specs.declared.timing.Checked.{Checked}
 use Rattle.ddr4_timing.specs.declared.timing.Geometry.{Geometry}
 use Rattle.ddr4_timing.specs.Lawful.{open_row}
 use Rattle.ddr4_timing.specs.Places.{HasBank, bank_at, bank_index}
-use Rattle.frfcfs.specs.declared.bank_set.BankSet.{BankSet}
-use Rattle.frfcfs.specs.declared.key.Key.{Key}
+use Rattle.request_notes.specs.declared.bank_set.BankSet.{BankSet}
+use Rattle.request_notes.specs.declared.key.Key.{Key}
 use Rattle.frfcfs.specs.declared.noted_look.NotedLook.{NotedLook}
 use Rattle.frfcfs.specs.declared.noted_look.Soon.{Soon}
-use Rattle.frfcfs.specs.declared.notes.Note.{Note}
-use Rattle.frfcfs.specs.declared.pending.Kind.TheVariants.{Read}
-use Rattle.frfcfs.specs.declared.pending.Pending.{Pending}
-use Rattle.frfcfs.specs.BankSets.{Has}
+use Rattle.request_notes.specs.declared.notes.Note.{Note}
+use Rattle.request_notes.specs.declared.pending.Kind.TheVariants.{Read}
+use Rattle.request_notes.specs.declared.pending.Pending.{Pending}
+use Rattle.request_notes.specs.BankSets.{Has}
 use Rattle.frfcfs.specs.Candidates.{WantsColumn, WantsRow}
 use Rattle.frfcfs.specs.Keys.{AreKeysIn}
-use Rattle.frfcfs.specs.Notes.{IsFree, IsNoteOf}
+use Rattle.request_notes.specs.Notes.{IsFree, IsNoteOf}
 use Rattle.frfcfs.specs.Search.{IsEnd, Takes}
 
 -- the bank of a number in a table of 64

@@ -1,16 +1,16 @@
 -- What contracts see of a queue of requests.
 use Rattle.std.specs.Prelude.{◌≡◌, ◌≢◌, ℕ, ◌+◌, ◌<◌, ◌≤◌, ◌↔◌, Bool, false, true, not, nat_lt, IsTrue, List, [], ◌∷◌, filter, length, map, slice_index, slice_get, slice_index_or, slice_set, Option, Some, None, All}
 use Rattle.gap_list.specs.Bounded.{Bounded}
-use Rattle.frfcfs.specs.declared.key.Key.{Key}
+use Rattle.request_notes.specs.declared.key.Key.{Key}
 use Rattle.frfcfs.specs.declared.line_counts.LineCounts.{LineCounts}
-use Rattle.frfcfs.specs.declared.notebook.Notebook.{Notebook}
-use Rattle.frfcfs.specs.declared.pending.Kind.{Kind}
-use Rattle.frfcfs.specs.declared.pending.Kind.TheVariants.{Read, Write}
-use Rattle.frfcfs.specs.declared.pending.Pending.{Pending}
+use Rattle.request_notes.specs.declared.notebook.Notebook.{Notebook}
+use Rattle.request_notes.specs.declared.pending.Kind.{Kind}
+use Rattle.request_notes.specs.declared.pending.Kind.TheVariants.{Read, Write}
+use Rattle.request_notes.specs.declared.pending.Pending.{Pending}
 use Rattle.frfcfs.specs.Keys.{AreKeys, firsts_of}
 use Rattle.frfcfs.specs.LineCounts.{AreCounts}
-use Rattle.frfcfs.specs.Notebook.{KeepsNotes}
-use Rattle.frfcfs.specs.Requests.{AreInOrder}
+use Rattle.request_notes.specs.Notebook.{KeepsNotes}
+use Rattle.request_notes.specs.Requests.{AreInOrder}
 
 -- how many requests it may hold, the seq of the next one, and those that it holds, in order of arrival
 pub record Waiting : Type 0 where

@@ -7,14 +7,14 @@ use Rattle.ddr4_timing.specs.declared.timing.Checked.{Checked}
 use Rattle.ddr4_timing.specs.declared.timing.Geometry.{Geometry}
 use Rattle.ddr4_timing.specs.Lawful.{open_row}
 use Rattle.ddr4_timing.specs.Places.{HasBank, bank_at, bank_index}
-use Rattle.frfcfs.specs.declared.bank_set.BankSet.{BankSet}
+use Rattle.request_notes.specs.declared.bank_set.BankSet.{BankSet}
 use Rattle.frfcfs.specs.declared.best.Best.{Best}
-use Rattle.frfcfs.specs.declared.pending.Kind.{Kind}
-use Rattle.frfcfs.specs.declared.pending.Kind.TheVariants.{Read, Write}
-use Rattle.frfcfs.specs.declared.pending.Pending.{Pending}
+use Rattle.request_notes.specs.declared.pending.Kind.{Kind}
+use Rattle.request_notes.specs.declared.pending.Kind.TheVariants.{Read, Write}
+use Rattle.request_notes.specs.declared.pending.Pending.{Pending}
 use Rattle.frfcfs.specs.declared.scan.Scan.{Scan}
-use Rattle.frfcfs.specs.BankSets.{Has}
-use Rattle.frfcfs.specs.Requests.{IsEligible, act_of, pre_of}
+use Rattle.request_notes.specs.BankSets.{Has}
+use Rattle.request_notes.specs.Requests.{IsEligible, act_of, pre_of}
 use Rattle.frfcfs.specs.Candidates.{IsOtherOpen, IsUnhit, MayHave, WantsColumn}
 use Rattle.frfcfs.specs.Search.{AreFound, IsBest, IsEligibleIn, Takes}
 

@@ -10,8 +10,8 @@ use Rattle.ddr4_timing.specs.Places.{HasBank, LiesIn, bank_at, bank_index}
 use Rattle.frfcfs.specs.declared.best.Best.{Best}
 use Rattle.frfcfs.specs.declared.best.Bests.{Bests}
 use Rattle.frfcfs.specs.declared.next.Next.{Next}
-use Rattle.frfcfs.specs.declared.pending.Pending.{Pending}
-use Rattle.frfcfs.specs.Requests.{IsFirst, IsEligible}
+use Rattle.request_notes.specs.declared.pending.Pending.{Pending}
+use Rattle.request_notes.specs.Requests.{IsFirst, IsEligible}
 use Rattle.frfcfs.specs.Candidates.{IsInLead, MayHave, OffersRank, WantsColumn, WantsRow}
 
 -- The marks of the first requests of a list: each says whether its request is the first of its line, which lies in the geometry.

@@ -3,13 +3,13 @@ ghost use Rattle.std.specs.Prelude.{◌≡◌, ℕ, ◌+◌, ◌≤◌, List, le
 ghost use Rattle.ddr4_timing.specs.Places.{HasBank, bank_at};
 ghost use Rattle.ddr4_timing.specs.declared.command.Stamped.{Stamped};
 ghost use Rattle.bank_core.specs.Stands.{Stands};
-ghost use Rattle.frfcfs.specs.declared.pending.Pending.{Pending};
-ghost use Rattle.frfcfs.specs.Requests.{IsEligible};
+ghost use Rattle.request_notes.specs.declared.pending.Pending.{Pending};
+ghost use Rattle.request_notes.specs.Requests.{IsEligible};
 ghost use Rattle.frfcfs.specs.Scan.{IsOlderBetter};
 ghost use Rattle.frfcfs.specs.Search.{AreBest, AreFound, AreHits, IsBetter, IsEnd, no_bests};
 
-use crate::pending::Pending;
 use bank_core::banks::Banks;
+use request_notes::pending::Pending;
 
 /// The first clock at which a request may have its command of one class, RD and WR or ACT and PRE, and the index of the
 /// oldest request that may have it then. Where none may before a limit the clock is that limit.

@@ -4,13 +4,13 @@ ghost use Rattle.ddr4_timing.specs.Lawful.{open_row};
 ghost use Rattle.ddr4_timing.specs.Places.{HasBank, bank_at};
 ghost use Rattle.ddr4_timing.specs.declared.command.Stamped.{Stamped};
 ghost use Rattle.bank_core.specs.Stands.{Stands};
-ghost use Rattle.frfcfs.specs.declared.pending.Pending.{Pending};
-ghost use Rattle.frfcfs.specs.Requests.{IsEligible, IsFirst};
+ghost use Rattle.request_notes.specs.declared.pending.Pending.{Pending};
+ghost use Rattle.request_notes.specs.Requests.{IsEligible, IsFirst};
 ghost use Rattle.frfcfs.specs.Search.{AreHits, AreMarks, HasEligibleIn};
 
-use crate::pending::Pending;
 use bank_core::banks::Banks;
 use ddr4_timing::timing::Geometry;
+use request_notes::pending::Pending;
 
 /// Whether no older request of the list names the request's line. It looks at each request of the list once at most.
 pub(crate) fn is_first(pending: &[Pending], p: &Pending) -> bool

@@ -3,8 +3,8 @@ ghost use Rattle.std.specs.Prelude.{◌≡◌, ◌≢◌, ℕ, ◌<◌, List, So
 ghost use Rattle.ddr4_timing.specs.declared.command.Command.{Command};
 ghost use Rattle.ddr4_timing.specs.declared.command.Stamped.{Stamped};
 ghost use Rattle.ddr4_timing.specs.declared.timing.Checked.{Checked};
-ghost use Rattle.frfcfs.specs.declared.pending.Pending.{Pending};
-ghost use Rattle.frfcfs.specs.Requests.{AreInOrder, IsEligible};
+ghost use Rattle.request_notes.specs.declared.pending.Pending.{Pending};
+ghost use Rattle.request_notes.specs.Requests.{AreInOrder, IsEligible};
 ghost use Rattle.frfcfs.specs.Candidates.{Turn, IsLeast};
 
 /// No request at an earlier place of the list names the line of an eligible one (`first`), and there is one choice at a clock

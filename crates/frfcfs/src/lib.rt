@@ -6,18 +6,13 @@
 //! (`docs/REFRESH_MARGIN.md` has the arithmetic). The definitions are in `specs/`.
 #![tactic(auto)]
 
-mod bank_set;
 mod best;
 mod hits;
-mod key;
 pub mod laws;
 mod line_counts;
 pub mod margin;
 pub mod next;
-mod notebook;
 mod noted_look;
-mod notes;
-pub mod pending;
 pub mod queue;
 mod scan;
 mod search;

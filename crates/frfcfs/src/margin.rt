@@ -6,7 +6,7 @@ ghost use Rattle.ddr4_timing.specs.declared.command.Stamped.{Stamped};
 ghost use Rattle.ddr4_timing.specs.declared.timing.Checked.{Checked};
 ghost use Rattle.bank_core.specs.Stands.{with_command};
 ghost use Rattle.frfcfs.specs.declared.next.Next.{Next};
-ghost use Rattle.frfcfs.specs.declared.pending.Pending.{Pending};
+ghost use Rattle.request_notes.specs.declared.pending.Pending.{Pending};
 ghost use Rattle.frfcfs.specs.Next.{IsNext};
 ghost use Rattle.frfcfs.specs.Margin.{AreAsleep, KeepsMargin, MayClose, MayRefresh, last_clock};
 

@@ -3,17 +3,17 @@ ghost use Rattle.std.specs.Prelude.{◌≡◌, ℕ, ◌<◌, ◌≤◌, ◌^◌,
 ghost use Rattle.ddr4_timing.specs.Places.{LiesIn};
 ghost use Rattle.ddr4_timing.specs.declared.command.Stamped.{Stamped};
 ghost use Rattle.bank_core.specs.Stands.{Allows, Stands, with_command};
-ghost use Rattle.frfcfs.specs.Requests.{AreInOrder};
+ghost use Rattle.request_notes.specs.Requests.{AreInOrder};
 ghost use Rattle.frfcfs.specs.Candidates.{IsChoice, IsInLead};
 ghost use Rattle.frfcfs.specs.Next.{IsNext, IsServable};
 ghost use Rattle.frfcfs.specs.Margin.{IsIdle, KeepsMargin, last_clock};
 
 use crate::hits::hit_banks;
-use crate::pending::Pending;
 use crate::queue::Queue;
 use crate::search::{first_of, search};
 use bank_core::banks::Banks;
 use ddr4_timing::command::Command;
+use request_notes::pending::Pending;
 
 /// A command, the clock that it goes at, and the place in the list of the request whose RD or WR it is.
 #[derive(Clone, Copy, Debug, PartialEq, Eq)]

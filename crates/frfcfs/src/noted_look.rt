@@ -3,28 +3,29 @@ ghost use Rattle.std.specs.Prelude.{◌≡◌, ◌≢◌, ℕ, ◌<◌, ◌≤�
 ghost use Rattle.ddr4_timing.specs.declared.command.Stamped.{Stamped};
 ghost use Rattle.ddr4_timing.specs.Places.{HasBank, LiesIn};
 ghost use Rattle.bank_core.specs.Stands.{Stands};
-ghost use Rattle.frfcfs.specs.declared.bank_set.BankSet.{BankSet};
-ghost use Rattle.frfcfs.specs.declared.key.Key.{Key};
-ghost use Rattle.frfcfs.specs.declared.notes.Note.{Note};
-ghost use Rattle.frfcfs.specs.declared.pending.Kind.TheVariants.{Read, Write};
-ghost use Rattle.frfcfs.specs.declared.pending.Pending.{Pending};
-ghost use Rattle.frfcfs.specs.BankSets.{IsOneTaken};
-ghost use Rattle.frfcfs.specs.Keys.{AreKeysIn, place_of};
-ghost use Rattle.frfcfs.specs.Notebook.{KeepsNotes};
-ghost use Rattle.frfcfs.specs.Notes.{AreNotes, IsHit, IsNoteOf, IsOldestSeq, SeqsRise};
+ghost use Rattle.request_notes.specs.declared.bank_set.BankSet.{BankSet};
+ghost use Rattle.request_notes.specs.declared.key.Key.{Key};
+ghost use Rattle.request_notes.specs.declared.notes.Note.{Note};
+ghost use Rattle.request_notes.specs.declared.pending.Kind.TheVariants.{Read, Write};
+ghost use Rattle.request_notes.specs.declared.pending.Pending.{Pending};
+ghost use Rattle.request_notes.specs.BankSets.{IsOneTaken};
+ghost use Rattle.frfcfs.specs.Keys.{AreKeysIn};
+ghost use Rattle.request_notes.specs.KeyPlaces.{place_of};
+ghost use Rattle.request_notes.specs.Notebook.{KeepsNotes};
+ghost use Rattle.request_notes.specs.Notes.{AreNotes, IsHit, IsNoteOf, IsOldestSeq, SeqsRise};
 ghost use Rattle.frfcfs.specs.NotedLook.{AreNotedFound, AreSoonest, AreSoonestBut, AreThere, IsNoted, IsNotedFound, IsSooner, SoonestColumnBut, SoonestColumnButWrites, address_of};
 ghost use Rattle.frfcfs.specs.Search.{AreAllBestInTurn, AreEnds, AreFoundInTurn, TellsEligible, limit_of};
 
 use crate::best::{Best, Bests};
-use crate::key::Key;
-use crate::notebook::Notebook;
-use crate::notes::{Note, Notes};
-use crate::pending::Kind;
 use crate::scan::Soonest;
 use crate::search::ends;
 use bank_core::banks::Banks;
 use ddr4_timing::command::Command;
 use ddr4_timing::place::BankAddress;
+use request_notes::key::Key;
+use request_notes::notebook::Notebook;
+use request_notes::notes::{Note, Notes};
+use request_notes::pending::Kind;
 
 /// The first clock at which a request may have its command of one class, and the seq of the oldest that may have it then.
 /// Where none may before a limit the clock is that limit.

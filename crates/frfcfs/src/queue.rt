@@ -1,24 +1,24 @@
 // The pending requests of a channel, in order of arrival.
 ghost use Rattle.std.specs.Prelude.{◌≡◌, ◌≢◌, ◌↔◌, ◌+◌, ◌-◌, ◌<◌, ◌≤◌, ◌^◌, ◌++◌, ◌∷◌, [], List, Some, All, IfOk, IsTrue, length, map, remove, slice_get};
 ghost use Rattle.ddr4_timing.specs.Places.{LiesIn};
-ghost use Rattle.frfcfs.specs.declared.pending.Pending.{Pending};
-ghost use Rattle.frfcfs.specs.Requests.{AreInOrder};
+ghost use Rattle.request_notes.specs.declared.pending.Pending.{Pending};
+ghost use Rattle.request_notes.specs.Requests.{AreInOrder};
 ghost use Rattle.frfcfs.specs.Keys.{AreKeys, AreToldBy, firsts_of};
 ghost use Rattle.frfcfs.specs.LineCounts.{AreCounts};
-ghost use Rattle.frfcfs.specs.Notes.{IsMarked};
+ghost use Rattle.request_notes.specs.Notes.{IsMarked};
 ghost use Rattle.frfcfs.specs.Queue.{KeepsRequests, IsOldestOf, MarksOldest, Waiting, held_by, is_held, numbered_from, writes_among};
 
 mod copying;
 mod looking;
 
-use crate::key::{Key, bank_number};
 use crate::line_counts::LineCounts;
-use crate::notebook::Notebook;
-use crate::pending::{Kind, Pending};
 use ddr4_timing::command::Command;
 use ddr4_timing::place::Place;
 use ddr4_timing::timing::Geometry;
 use gap_list::GapList;
+use request_notes::key::{Key, bank_number};
+use request_notes::notebook::Notebook;
+use request_notes::pending::{Kind, Pending};
 use std::alloc::{AllocError, Global};
 use std::marker::Model;
 

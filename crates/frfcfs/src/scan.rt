@@ -3,20 +3,21 @@ ghost use Rattle.std.specs.Prelude.{◌≡◌, ℕ, ◌+◌, ◌<◌, ◌≤◌,
 ghost use Rattle.ddr4_timing.specs.Places.{LiesIn};
 ghost use Rattle.ddr4_timing.specs.declared.command.Stamped.{Stamped};
 ghost use Rattle.bank_core.specs.Stands.{Stands};
-ghost use Rattle.frfcfs.specs.declared.pending.Pending.{Pending};
-ghost use Rattle.frfcfs.specs.BankSets.{Has};
-ghost use Rattle.frfcfs.specs.Keys.{AreKeysIn, IsKeyOf, place_of};
-ghost use Rattle.frfcfs.specs.Requests.{IsEligible};
+ghost use Rattle.request_notes.specs.declared.pending.Pending.{Pending};
+ghost use Rattle.request_notes.specs.BankSets.{Has};
+ghost use Rattle.frfcfs.specs.Keys.{AreKeysIn, IsKeyOf};
+ghost use Rattle.request_notes.specs.KeyPlaces.{place_of};
+ghost use Rattle.request_notes.specs.Requests.{IsEligible};
 ghost use Rattle.frfcfs.specs.Candidates.{WantsRow};
 ghost use Rattle.frfcfs.specs.Scan.{AreScanned, IsScanFound, flag_of};
 ghost use Rattle.frfcfs.specs.Search.{AreAllBest, AreEnds, AreFound, IsBest, IsFound, Takes, TellsEligible, limit_of, no_bests};
 
-use crate::bank_set::BankSet;
 use crate::best::{Best, Bests};
-use crate::key::Key;
-use crate::pending::{Kind, Pending};
 use crate::search::ends;
 use bank_core::banks::Banks;
+use request_notes::bank_set::BankSet;
+use request_notes::key::Key;
+use request_notes::pending::{Kind, Pending};
 
 /// What the requests that were looked at say of the banks.
 #[derive(Clone, Copy)]

@@ -4,8 +4,8 @@ ghost use Rattle.ddr4_timing.specs.declared.command.Command.{Command};
 ghost use Rattle.ddr4_timing.specs.declared.command.Stamped.{Stamped};
 ghost use Rattle.ddr4_timing.specs.Places.{HasBank, bank_at};
 ghost use Rattle.bank_core.specs.Stands.{Stands};
-ghost use Rattle.frfcfs.specs.declared.pending.Pending.{Pending};
-ghost use Rattle.frfcfs.specs.Requests.{AreInOrder};
+ghost use Rattle.request_notes.specs.declared.pending.Pending.{Pending};
+ghost use Rattle.request_notes.specs.Requests.{AreInOrder};
 ghost use Rattle.frfcfs.specs.Candidates.{WantsRow};
 ghost use Rattle.frfcfs.specs.Next.{IsNextIn, IsServable};
 ghost use Rattle.frfcfs.specs.Search.{AreAllBest, AreAllBestInTurn, AreEnds, AreFound, AreFoundInTurn, AreHits, AreMarks, IsRankNext, IsSoonerOf, ServesNobodyIn, limit_of};
@@ -13,9 +13,9 @@ ghost use Rattle.frfcfs.specs.Search.{AreAllBest, AreAllBestInTurn, AreEnds, Are
 use crate::best::Bests;
 use crate::hits::{Hits, is_eligible};
 use crate::next::Next;
-use crate::pending::Pending;
 use bank_core::banks::Banks;
 use ddr4_timing::command::Command;
+use request_notes::pending::Pending;
 
 /// For each rank the clock before which its requests may have their commands, in a span up to a last clock.
 pub(crate) fn ends(banks: &Banks, last: u64) -> [u64; 4]

@@ -7,8 +7,8 @@ use ddr4_timing::command::Command;
 use ddr4_timing::place::{BankAddress, Place};
 use ddr4_timing::profiles::{SMALL, TINY};
 use frfcfs::next::{Next, choose, next_command};
-use frfcfs::pending::Kind;
 use frfcfs::queue::Queue;
+use request_notes::pending::Kind;
 use std::process::Abort;
 
 const BANK: BankAddress = BankAddress {

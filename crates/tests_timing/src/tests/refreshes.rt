@@ -6,8 +6,8 @@ use ddr4_timing::place::Place;
 use ddr4_timing::profiles::{SHORT_ROWS, TIGHT};
 use ddr4_timing::timing::Checked;
 use frfcfs::next::{Next, next_command};
-use frfcfs::pending::Kind;
 use frfcfs::queue::Queue;
+use request_notes::pending::Kind;
 use std::alloc::Global;
 use std::test::Fail;
 

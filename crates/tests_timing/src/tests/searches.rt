@@ -5,8 +5,8 @@ use ddr4_timing::place::Place;
 use ddr4_timing::profiles::{LARGEST, SHORT_ROWS, SMALL, TIGHT, WIDEST};
 use ddr4_timing::timing::Geometry;
 use frfcfs::next::{choose, next_command};
-use frfcfs::pending::{Kind, Pending};
 use frfcfs::queue::{Queue, is_held};
+use request_notes::pending::{Kind, Pending};
 use std::process::Abort;
 
 // What the places of a crowd have in common.

@@ -1,6 +1,6 @@
 use Rattle.std.proofs.Common.{◌≡◌, ap, arith, get_or, refl, subst, sym, ◌∙◌}
 use Rattle.frfcfs.specs.NotedLook.{address_of}
-use Rattle.frfcfs.specs.Notes.{note_of}
+use Rattle.request_notes.specs.Notes.{note_of}
 use Rattle.frfcfs.proofs.Common.{BankAddress, HasBank, IsEnd, limit_of, open_row}
 use Rattle.frfcfs.proofs.SoonEnds.{all_end, all_start}
 use Rattle.frfcfs.proofs.noted_look.look_at_each.Goals as goal

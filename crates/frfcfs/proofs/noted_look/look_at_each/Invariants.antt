@@ -1,6 +1,6 @@
 use Rattle.std.proofs.Common.{ℕ, List}
-use Rattle.frfcfs.specs.BankSets.{Has}
-use Rattle.frfcfs.specs.Notes.{AreNotes}
+use Rattle.request_notes.specs.BankSets.{Has}
+use Rattle.request_notes.specs.Notes.{AreNotes}
 use Rattle.frfcfs.specs.NotedLook.{AreNotedFound, AreSoonestBut}
 use Rattle.frfcfs.specs.Search.{AreEnds}
 use Rattle.frfcfs.proofs.Common.{AreKeysIn, Key, Pending, Stamped, Stands, limit_of}

@@ -1,5 +1,5 @@
 use Rattle.std.proofs.Common.{ℕ, Option, inl, inr, refl, subst}
-use Rattle.frfcfs.specs.Notes.{IsHit, IsOldestSeq}
+use Rattle.request_notes.specs.Notes.{IsHit, IsOldestSeq}
 use Rattle.frfcfs.proofs.Common.{Read, Write}
 use Rattle.frfcfs.proofs.KeyRequests.{some_seq}
 use Rattle.frfcfs.proofs.SoonBanks.{rows_hit}

@@ -1,5 +1,5 @@
 use Rattle.std.proofs.Common.{◌≡◌, ℕ, Option, None, ap, ◌∙◌, subst, sym}
-use Rattle.frfcfs.specs.Notes.{IsOfBank, IsOldestSeq}
+use Rattle.request_notes.specs.Notes.{IsOfBank, IsOldestSeq}
 use Rattle.frfcfs.proofs.Common.{Act, BankAddress, Command, Pre, least_clock}
 use Rattle.frfcfs.proofs.SoonBanks.{columns_none, row_command_of, rows_gone, rows_seen}
 use Rattle.frfcfs.proofs.noted_look.NotedLook.look_at_oldest.Goals as goal

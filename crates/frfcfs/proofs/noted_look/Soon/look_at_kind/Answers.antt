@@ -1,5 +1,5 @@
 use Rattle.std.proofs.Common.{◌≡◌, ℕ, Option, None, ap, ◌∙◌, subst}
-use Rattle.frfcfs.specs.Notes.{IsHit, IsOldestSeq}
+use Rattle.request_notes.specs.Notes.{IsHit, IsOldestSeq}
 use Rattle.frfcfs.proofs.Common.{BankAddress, Command, Rd, Read, Wr, Write, column_of, least_clock}
 use Rattle.frfcfs.proofs.SoonBanks.{no_reads, no_writes, place_in, reads_seen, writes_seen}
 use Rattle.frfcfs.proofs.noted_look.Soon.look_at_kind.Goals as goal

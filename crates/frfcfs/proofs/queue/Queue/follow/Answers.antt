@@ -1,6 +1,6 @@
 use Rattle.std.proofs.Common.{List, subst}
-use Rattle.frfcfs.specs.Notebook.{KeepsNotes}
-use Rattle.frfcfs.specs.Notes.{SeqsRise}
+use Rattle.request_notes.specs.Notebook.{KeepsNotes}
+use Rattle.request_notes.specs.Notes.{SeqsRise}
 use Rattle.frfcfs.proofs.Common.{Key}
 use Rattle.frfcfs.proofs.KeyRequests.{keys_rise}
 use Rattle.frfcfs.proofs.queue.Queue.follow.Goals as goal

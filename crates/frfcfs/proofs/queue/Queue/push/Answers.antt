@@ -2,13 +2,13 @@ use Rattle.std.proofs.Common.{◌≡◌, ◌<◌, ◌≢◌, ◌↔◌, ◌++◌
 use Rattle.std.proofs.lemmas.List.{length-map}
 use Rattle.gap_list.specs.Bounded.{Bounded}
 use Rattle.frfcfs.specs.LineCounts.{AreCounts}
-use Rattle.frfcfs.specs.Notebook.{KeepsNotes}
-use Rattle.frfcfs.specs.Notes.{Joins}
+use Rattle.request_notes.specs.Notebook.{KeepsNotes}
+use Rattle.request_notes.specs.Notes.{Joins}
 use Rattle.frfcfs.proofs.Common.{AreKeys, IsKeyOf, Key, Pending, Waiting}
 use Rattle.frfcfs.proofs.CountLemmas.{counts_few}
 use Rattle.frfcfs.proofs.KeyLemmas.{keys_push, keys_within}
 use Rattle.frfcfs.proofs.KeptRequests.{kept_push}
-use Rattle.frfcfs.proofs.NoteLemmas.{joins_push}
+use Rattle.request_notes.proofs.NoteLemmas.{joins_push}
 use Rattle.frfcfs.proofs.QueueLemmas.{lines}
 use Rattle.frfcfs.proofs.queue.Queue.push.Goals as goal
 

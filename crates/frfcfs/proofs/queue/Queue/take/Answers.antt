@@ -2,8 +2,8 @@ use Rattle.std.proofs.Common.{◌≡◌, List, remove, ap, ◌∙◌}
 use Rattle.std.proofs.lemmas.Option.{slice_get_within}
 use Rattle.gap_list.specs.Bounded.{Bounded}
 use Rattle.frfcfs.specs.LineCounts.{AreCounts}
-use Rattle.frfcfs.specs.Notebook.{KeepsNotes}
-use Rattle.frfcfs.specs.Notes.{IsMarked}
+use Rattle.request_notes.specs.Notebook.{KeepsNotes}
+use Rattle.request_notes.specs.Notes.{IsMarked}
 use Rattle.frfcfs.proofs.Common.{AreKeys, Key, MarksOldest, Pending, Waiting, firsts_of}
 use Rattle.frfcfs.proofs.CountLemmas.{counts_some}
 use Rattle.frfcfs.proofs.KeptRequests.{kept_take, line_there}

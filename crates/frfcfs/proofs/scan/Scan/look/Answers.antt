@@ -1,5 +1,5 @@
 use Rattle.std.proofs.Common.{◌≡◌, ℕ, Some, None, ap, ◌∙◌, sym, subst, arith, refl, length, get_or}
-use Rattle.frfcfs.specs.BankSets.{Has}
+use Rattle.request_notes.specs.BankSets.{Has}
 use Rattle.frfcfs.specs.Scan.{flag_of}
 use Rattle.frfcfs.proofs.Common.{BankAddress, Command, HasBank, IsEnd, Kind, act_of, bank_at, bank_index, column_of, least_clock, open_row, place_of}
 use Rattle.frfcfs.proofs.KeyLemmas.{key_bank, key_flag, key_index, key_small}

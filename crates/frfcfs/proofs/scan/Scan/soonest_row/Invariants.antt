@@ -1,5 +1,5 @@
 use Rattle.std.proofs.Common.{ℕ, ◌≤◌, List, length, get_or}
-use Rattle.frfcfs.specs.BankSets.{Has}
+use Rattle.request_notes.specs.BankSets.{Has}
 use Rattle.frfcfs.specs.Scan.{AreScanned, IsScanFound, WantsRowBut}
 use Rattle.frfcfs.specs.Search.{AreEnds, IsFound}
 use Rattle.frfcfs.proofs.Common.{IsBest, Stamped, Stands, Takes}

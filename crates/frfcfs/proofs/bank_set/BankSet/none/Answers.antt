@@ -1,5 +1,0 @@
-use Rattle.std.proofs.lemmas.Nat.Bits.{bit_at-zero}
-use Rattle.frfcfs.proofs.bank_set.BankSet.none.Goals as goal
-
-pub returns : goal.returns
-returns c bank h = absurd (cc (h, bit_at-zero bank))

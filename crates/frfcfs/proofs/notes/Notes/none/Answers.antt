@@ -1,6 +1,0 @@
-use Rattle.std.proofs.Common.{ℕ, ◌<◌}
-use Rattle.frfcfs.proofs.NoteLemmas.{notes_none, notes_repeated}
-use Rattle.frfcfs.proofs.notes.Notes.none.Goals as goal
-
-pub returns : goal.returns
-returns c = notes_none _ c.none-2.result (notes_repeated c.none.result c.none.ensures) c.none-2.ensures

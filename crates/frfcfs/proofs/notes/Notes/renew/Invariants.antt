@@ -1,6 +1,0 @@
-use Rattle.std.proofs.Common.{take}
-use Rattle.frfcfs.specs.Notes.{AreNotes}
-use Rattle.frfcfs.proofs.notes.Notes.renew.Given as goal
-
-abbrev pub invariant-loop-place : goal.invariant-loop-place
-invariant-loop-place l = AreNotes (take l.place l.keys) l.self

@@ -1,5 +1,0 @@
-use Rattle.std.proofs.Common.{refl}
-use Rattle.frfcfs.proofs.pending.Pending.act.Goals as goal
-
-pub returns : goal.returns
-returns c = rw c.bank_address.ensures refl

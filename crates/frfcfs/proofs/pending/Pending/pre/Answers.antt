@@ -1,5 +1,0 @@
-use Rattle.std.proofs.Common.{refl}
-use Rattle.frfcfs.proofs.pending.Pending.pre.Goals as goal
-
-pub returns : goal.returns
-returns c = rw c.bank_address-at.ensures refl

@@ -1,0 +1,3 @@
+pub mod BankBits
+pub mod Stood
+pub mod NoteLemmas

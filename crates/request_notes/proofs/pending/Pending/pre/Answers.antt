@@ -1,0 +1,5 @@
+use Rattle.std.proofs.Common.{refl}
+use Rattle.request_notes.proofs.pending.Pending.pre.Goals as goal
+
+pub returns : goal.returns
+returns c = rw c.bank_address-at.ensures refl
