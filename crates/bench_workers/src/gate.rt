@@ -1,5 +1,5 @@
 // The gate of the workers.
-use nv_workers::{Gate, Turn};
+use board_hosts::{Gate, Turn};
 use std::sync::atomic::{AtomicBool, Ordering};
 
 /// How many turns a worker has: where no thread is to be had, the hosts wait for its end.

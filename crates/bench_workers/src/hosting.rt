@@ -1,11 +1,11 @@
 // What one host does.
 use crate::plans::{Cuts, Plan};
 use arm_state::{ReadRefusal, WriteRefusal};
+use board_hosts::{Always, BoardName, Host, Receipt, Seen};
 use channel_locks::PartsName;
 use channel_port::ChannelPort;
 use energy_budget::Meter;
 use notice_book::Notices;
-use nv_workers::{Always, BoardName, Host, Receipt, Seen};
 use save_device::SaveDevice;
 use split_board::Board;
 use std::alloc::{AllocError, Global};

@@ -19,14 +19,14 @@ use Rattle.nv_machine.specs.declared.events.Reply.{Reply}
 use Rattle.nv_machine.proofs.EachEvent.{event_keeps}
 use Rattle.nv_machine.proofs.Refusing.{arms_where}
 use Rattle.nv_machine.proofs.Effects.{Effect, rests, shows, runs_low, disarms, accepts, begins, arms, fails_to_arm, steps, ends, repeats, fails, closes, effect}
-use Rattle.nv_workers.specs.Steps.{StepsTo}
-use Rattle.nv_workers.specs.declared.recorded_module.RecordedModule.{RecordedModule}
+use Rattle.board_hosts.specs.Steps.{StepsTo}
+use Rattle.board_hosts.specs.declared.recorded_module.RecordedModule.{RecordedModule}
 use Rattle.line_memory.specs.History.{Recorded, recorded}
-use Rattle.nv_workers.proofs.Keeping.{begins_within}
-use Rattle.nv_workers.proofs.Stored.{stored_grows}
+use Rattle.board_hosts.proofs.Keeping.{begins_within}
+use Rattle.board_hosts.proofs.Stored.{stored_grows}
 use Rattle.nv_machine.specs.Lives.{LivedUntil}
-use Rattle.nv_workers.specs.Lived.{world_for}
-use Rattle.nv_workers.proofs.Living.{lived_event, lived_pause}
+use Rattle.board_hosts.specs.Lived.{world_for}
+use Rattle.board_hosts.proofs.Living.{lived_event, lived_pause}
 use Rattle.save_device.specs.declared.device.SaveDevice.{Ghosts as DeviceGhosts}
 use Rattle.board_desk.specs.Calling.{AddsNone, Answered, Course, GoesBy, GoesAlong, Paused}
 

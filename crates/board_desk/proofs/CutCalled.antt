@@ -9,8 +9,8 @@ use Rattle.module_core.proofs.RunsOn.{cut_rests, cut_stands}
 use Rattle.module_core.specs.declared.module.Module.{Module}
 use Rattle.nv_machine.proofs.Guarded.{cut_below}
 use Rattle.nv_machine.specs.State.{Machine, stored_base, stored_writes}
-use Rattle.nv_workers.specs.Kept.{whole_record}
-use Rattle.nv_workers.specs.declared.recorded_module.RecordedModule.{RecordedModule}
+use Rattle.board_hosts.specs.Kept.{whole_record}
+use Rattle.board_hosts.specs.declared.recorded_module.RecordedModule.{RecordedModule}
 use Rattle.save_device.specs.declared.device.SaveDevice.{Ghosts as DeviceGhosts}
 use Rattle.board_desk.specs.Calling.{GoesBy, Paused}
 

@@ -27,12 +27,12 @@ use Rattle.nv_machine.proofs.EachEvent.{KeepsLife, event_keeps, guarded_event}
 use Rattle.nv_machine.proofs.Guarded.{cut_below}
 use Rattle.nv_machine.proofs.HonestEvents.{honest_event}
 use Rattle.nv_machine.proofs.Leaving.{left_after, left_before}
-use Rattle.nv_workers.proofs.Stored.{stored_grows}
+use Rattle.board_hosts.proofs.Stored.{stored_grows}
 use Rattle.save_image.specs.Image.{Image}
 use Rattle.split_module.specs.Lending.{SplitStands}
 use Rattle.board_desk.proofs.Settled.{leaves}
 use Rattle.board_desk.specs.Desk.{AreBoardLogs, DeskStands, DeskView, setup_at, shape_at, world_at}
-use Rattle.nv_workers.proofs.Living.{lived_event}
+use Rattle.board_hosts.proofs.Living.{lived_event}
 use Rattle.nv_machine.specs.Lives.{LivedUntil}
 
 -- the step of a save that runs is one that the lines have, and comes still

@@ -7,10 +7,10 @@ use Rattle.channel_log.specs.Log.{LogNote}
 use Rattle.channel_port.specs.Shape.{IsShape}
 use Rattle.energy_budget.specs.Costs.{AreReckonedFor}
 use Rattle.energy_budget.specs.declared.costs.Costs.{Costs}
-use Rattle.mark_board.specs.SeenMarks.{SeenMarks, seen_marks}
+use Rattle.board_hosts.specs.SeenMarks.{SeenMarks, seen_marks}
 use Rattle.module_core.specs.declared.front.Front.{Front}
 use Rattle.nv_machine.specs.State.{Machine}
-use Rattle.nv_workers.specs.declared.board_name.BoardName.{Ghosts as BoardGhosts}
+use Rattle.board_hosts.specs.declared.board_name.BoardName.{Ghosts as BoardGhosts}
 use Rattle.split_module.specs.declared.front.SplitFront.{SplitFront}
 use Rattle.board_desk.specs.Answering.{Settles}
 use Rattle.board_desk.specs.Desk.{DeskStands, DeskView, shape_named}

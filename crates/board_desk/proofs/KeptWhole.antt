@@ -7,10 +7,10 @@ use Rattle.atomic_table.specs.Seated.{TableId}
 use Rattle.channel_locks.specs.declared.parts_name.PartsName.{Ghosts as PartsGhosts}
 use Rattle.channel_port.specs.Shape.{IsShape}
 use Rattle.channel_port.specs.declared.port.ChannelPort.{Ghosts}
-use Rattle.mark_board.specs.SeenMarks.{SeenMarks, seen_marks}
+use Rattle.board_hosts.specs.SeenMarks.{SeenMarks, seen_marks}
 use Rattle.nv_machine.specs.State.{Setup}
-use Rattle.nv_workers.specs.Marks.{ShowsNoMore}
-use Rattle.nv_workers.specs.declared.board_name.BoardName.{Ghosts as BoardGhosts}
+use Rattle.board_hosts.specs.Marks.{ShowsNoMore}
+use Rattle.board_hosts.specs.declared.board_name.BoardName.{Ghosts as BoardGhosts}
 use Rattle.board_desk.specs.Calling.{Course}
 use Rattle.board_desk.specs.Desk.{DeskView}
 use Rattle.board_desk.specs.Kept.{IsDeskKept}

@@ -38,10 +38,10 @@ use Rattle.module_core.specs.declared.front.Front.{Front}
 use Rattle.nv_machine.specs.Losses.{LoseStep}
 use Rattle.nv_machine.specs.State.{Life, Machine, Setup, World, base_of_life, hold_of, start_of_life, stored_base, stored_writes}
 use Rattle.nv_machine.proofs.Guarded.{persisted_accepted}
-use Rattle.nv_workers.specs.Kept.{IsRecordKept, StandsWith}
+use Rattle.board_hosts.specs.Kept.{IsRecordKept, StandsWith}
 use Rattle.nv_machine.specs.Lives.{LivedUntil}
-use Rattle.nv_workers.specs.Lived.{assembly_of, world_for}
-use Rattle.nv_workers.specs.declared.recorded_module.RecordedModule.{RecordedModule}
+use Rattle.board_hosts.specs.Lived.{assembly_of, world_for}
+use Rattle.board_hosts.specs.declared.recorded_module.RecordedModule.{RecordedModule}
 use Rattle.save_device.specs.declared.device.SaveDevice.{Ghosts as DeviceGhosts}
 use Rattle.save_image.specs.Image.{Image}
 use Rattle.split_module.proofs.ReadLines.{lived_has, told_has}

@@ -21,10 +21,10 @@ use Rattle.module_core.specs.Issuing.{Issues}
 use Rattle.nv_machine.specs.declared.events.Accepted.{Accepted}
 use Rattle.nv_machine.specs.declared.events.Event.{Event}
 use Rattle.nv_machine.specs.declared.events.Reply.{Reply}
-use Rattle.nv_workers.specs.Kept.{IsRecordKept}
-use Rattle.nv_workers.specs.Steps.{StepsTo}
-use Rattle.nv_workers.specs.declared.host.GotAt.{GotAt}
-use Rattle.nv_workers.specs.declared.recorded_module.RecordedModule.{RecordedModule}
+use Rattle.board_hosts.specs.Kept.{IsRecordKept}
+use Rattle.board_hosts.specs.Steps.{StepsTo}
+use Rattle.board_hosts.specs.declared.host.GotAt.{GotAt}
+use Rattle.board_hosts.specs.declared.recorded_module.RecordedModule.{RecordedModule}
 use Rattle.save_device.specs.declared.device.SaveDevice.{Ghosts as DeviceGhosts}
 use Rattle.board_desk.specs.Answering.{DoneWithLent, KeepsPort, PutsWrite, ReadsLine, SettlesPart}
 use Rattle.board_desk.specs.Losing.{WhereUndrained}

@@ -5,7 +5,7 @@ use Rattle.line_memory.proofs.Moving.{told_the_same}
 use Rattle.line_memory.specs.History.{Recorded, TellsSameFrom, cut_at}
 use Rattle.nv_machine.proofs.Guarded.{cut_below}
 use Rattle.nv_machine.specs.State.{Machine, start_of_life}
-use Rattle.nv_workers.specs.Kept.{whole_record}
+use Rattle.board_hosts.specs.Kept.{whole_record}
 use Rattle.board_desk.specs.Desk.{DeskStands, DeskView}
 
 module _ {B : Type 0} (P : PartsGhosts B) (desk : DeskView) (m : Machine) (s : DeskStands P desk m) where

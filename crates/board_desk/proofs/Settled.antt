@@ -23,7 +23,7 @@ use Rattle.split_module.specs.declared.front.SplitFront.{SplitFront}
 use Rattle.split_module.specs.Lending.{SplitStands}
 use Rattle.board_desk.specs.Answering.{SeesOwn}
 use Rattle.board_desk.specs.Desk.{AreBoardLogs, DeskStands, DeskView, setup_at, shape_at, shape_named, world_at}
-use Rattle.nv_workers.proofs.Living.{lived_run}
+use Rattle.board_hosts.proofs.Living.{lived_run}
 use Rattle.nv_machine.specs.Lives.{LivedUntil}
 
 -- no event leads from a world to itself

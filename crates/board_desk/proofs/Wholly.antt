@@ -14,7 +14,7 @@ use Rattle.arm_state.specs.declared.loss.Loss.{Loss}
 use Rattle.nv_machine.specs.Losses.{LoseStep}
 use Rattle.nv_machine.specs.State.{Machine, Setup, World}
 use Rattle.nv_machine.proofs.JoinedRuns.{join_runs, rests_here}
-use Rattle.nv_workers.specs.declared.board_name.BoardName.{Ghosts as BoardGhosts}
+use Rattle.board_hosts.specs.declared.board_name.BoardName.{Ghosts as BoardGhosts}
 use Rattle.save_device.specs.Device.{DeviceState}
 use Rattle.split_module.specs.declared.front.SplitFront.{SplitFront}
 use Rattle.save_device.specs.declared.device.SaveDevice.{Ghosts as DeviceGhosts}

@@ -20,7 +20,7 @@ use Rattle.channel_port.specs.View.{PortView, with_write}
 use Rattle.line_memory.specs.History.{Recorded}
 use Rattle.line_memory.specs.Parts.{AreBefore, numbered}
 use Rattle.line_memory.specs.declared.Write as line_write
-use Rattle.mark_board.specs.SeenMarks.{SeenMarks, seen_marks}
+use Rattle.board_hosts.specs.SeenMarks.{SeenMarks, seen_marks}
 use Rattle.atomic_table.specs.Seated.{TableId}
 use Rattle.module_core.specs.Fronts.{AcceptsOne, setup_in}
 use Rattle.module_core.specs.declared.opening.LifeTerms.{LifeTerms}
@@ -29,7 +29,7 @@ use Rattle.nv_machine.specs.declared.events.Event.{Event}
 use Rattle.nv_machine.specs.declared.events.Reply.{Reply}
 use Rattle.nv_machine.specs.Rising.{added}
 use Rattle.nv_machine.specs.State.{Machine, base_of_life}
-use Rattle.nv_workers.specs.Marks.{ShowsNoMore}
+use Rattle.board_hosts.specs.Marks.{ShowsNoMore}
 use Rattle.split_module.proofs.ReadLines.{event_has, lived_has, logs_have}
 use Rattle.split_module.specs.Telling.{with_note}
 use Rattle.split_module.specs.Lending.{WroteOn}

@@ -14,7 +14,7 @@ use Rattle.nv_machine.specs.declared.events.Event.{Event}
 use Rattle.nv_machine.specs.declared.events.Reply.{Reply}
 use Rattle.nv_machine.specs.Headline.{Happens}
 use Rattle.nv_machine.specs.State.{Machine}
-use Rattle.nv_workers.specs.declared.host.GotAt.{GotAt}
+use Rattle.board_hosts.specs.declared.host.GotAt.{GotAt}
 use Rattle.split_module.specs.OwnEvents.{ComesOfOwn}
 use Rattle.board_desk.specs.Desk.{DeskStands, DeskView, setup_at, world_at}
 

@@ -16,9 +16,9 @@ use Rattle.nv_machine.specs.declared.events.Event.TheVariants as events
 use Rattle.nv_machine.specs.declared.events.Reply.{Reply}
 use Rattle.nv_machine.specs.declared.events.Reply.TheVariants as replies
 use Rattle.nv_machine.specs.declared.events.StepReply.{StepReply}
-use Rattle.nv_workers.specs.Kept.{StandsWith}
-use Rattle.nv_workers.specs.Lived.{world_for}
-use Rattle.nv_workers.specs.declared.recorded_module.RecordedModule.{RecordedModule}
+use Rattle.board_hosts.specs.Kept.{StandsWith}
+use Rattle.board_hosts.specs.Lived.{world_for}
+use Rattle.board_hosts.specs.declared.recorded_module.RecordedModule.{RecordedModule}
 use Rattle.save_device.specs.declared.device.SaveDevice.{Ghosts as DeviceGhosts}
 
 -- what a call of a whole module is to its life: one event with its reply, or a pause

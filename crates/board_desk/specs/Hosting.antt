@@ -8,10 +8,10 @@ use Rattle.channel_port.specs.declared.port.ChannelPort.{Ghosts}
 use Rattle.channel_locks.specs.declared.parts_name.PartsName.{Ghosts as PartsGhosts}
 use Rattle.nv_machine.specs.declared.events.Event.TheVariants as events
 use Rattle.nv_machine.specs.declared.events.Reply.TheVariants as replies
-use Rattle.nv_workers.specs.declared.board_name.BoardName.{Ghosts as BoardGhosts}
-use Rattle.nv_workers.specs.declared.host.Receipt.{Receipt}
-use Rattle.nv_workers.specs.Client.{Client}
-use Rattle.nv_workers.specs.Marks.{told_at}
+use Rattle.board_hosts.specs.declared.board_name.BoardName.{Ghosts as BoardGhosts}
+use Rattle.board_hosts.specs.declared.host.Receipt.{Receipt}
+use Rattle.board_hosts.specs.Client.{Client}
+use Rattle.board_hosts.specs.Marks.{told_at}
 use Rattle.board_desk.specs.declared.desk.Desk.{Desk}
 use Rattle.board_desk.specs.Answering.{DeskAnswers}
 use Rattle.board_desk.specs.Views.{desk_of}

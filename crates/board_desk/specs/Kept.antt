@@ -1,7 +1,7 @@
 -- What is true behind the board's lock whenever it is free.
 use Rattle.std.specs.Prelude.{◌≡◌, ℕ, ◌+◌, ◌≤◌, Some}
 use Rattle.atomic_table.specs.Seated.{TableId}
-use Rattle.mark_board.specs.SeenMarks.{SeenMarks, seen_marks}
+use Rattle.board_hosts.specs.SeenMarks.{SeenMarks, seen_marks}
 use Rattle.channel_port.specs.Shape.{IsShape}
 use Rattle.channel_locks.specs.PortMakes.{PortMake}
 use Rattle.channel_set.specs.declared.terms.PortTerms.{PortTerms}
@@ -9,7 +9,7 @@ use Rattle.energy_budget.specs.Costs.{AreReckonedFor}
 use Rattle.line_memory.specs.Memory.{IsMemory}
 use Rattle.channel_locks.specs.declared.parts_name.PartsName.{Ghosts as PartsGhosts}
 use Rattle.nv_machine.specs.State.{Machine}
-use Rattle.nv_workers.specs.declared.board_name.BoardName.{Ghosts as BoardGhosts}
+use Rattle.board_hosts.specs.declared.board_name.BoardName.{Ghosts as BoardGhosts}
 use Rattle.board_desk.specs.Desk.{DeskStands, DeskView, shape_at}
 
 -- ports with these terms have this in common, whatever they hold back

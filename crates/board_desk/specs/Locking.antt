@@ -11,9 +11,9 @@ use Rattle.channel_part.specs.declared.part.Part.{Part}
 use Rattle.channel_port.specs.declared.port.ChannelPort.{Ghosts}
 use Rattle.energy_budget.specs.declared.energy.Energy.{Ghosts as GaugeGhosts}
 use Rattle.line_memory.specs.History.{Recorded}
-use Rattle.mark_board.specs.SeenMarks.{SeenMarks}
+use Rattle.board_hosts.specs.SeenMarks.{SeenMarks}
 use Rattle.module_core.specs.Draining.{WhereDrained}
-use Rattle.nv_workers.specs.declared.board_name.BoardName.{Ghosts as BoardGhosts}
+use Rattle.board_hosts.specs.declared.board_name.BoardName.{Ghosts as BoardGhosts}
 use Rattle.save_device.specs.declared.device.SaveDevice.{Ghosts as DeviceGhosts}
 use Rattle.worker_turns.specs.declared.Gate.{Ghosts as GateGhosts}
 use Rattle.board_desk.specs.Asking.{CameBy, pieces_with}

@@ -3,7 +3,7 @@ use Rattle.std.specs.Prelude.{◌≡◌}
 use Rattle.save_device.specs.declared.device.SaveDevice.{Ghosts as DeviceGhosts}
 use Rattle.energy_budget.specs.declared.energy.Energy.{Ghosts as GaugeGhosts}
 use Rattle.channel_port.specs.declared.port.ChannelPort.{Ghosts}
-use Rattle.nv_workers.specs.declared.board_name.BoardName.{Ghosts as BoardGhosts}
+use Rattle.board_hosts.specs.declared.board_name.BoardName.{Ghosts as BoardGhosts}
 use Rattle.channel_locks.specs.declared.parts_name.PartsName.{Ghosts as PartsGhosts}
 use Rattle.board_desk.specs.declared.desk.Desk.{Desk}
 use Rattle.board_desk.specs.Desk.{DeskView, desk_view}

@@ -5,10 +5,10 @@ ghost use Rattle.board_desk.specs.Closing.{HaveModule};
 use crate::board_port::BoardPort;
 use crate::desk::Desk;
 use crate::lent_desk::LentDesk;
+use board_hosts::{BoardName, Held};
 use channel_locks::{LockedChannel, LockedChannels, PartsName, UnlockedChannels};
 use channel_port::ChannelPort;
 use energy_budget::Energy;
-use nv_workers::{BoardName, Held};
 use save_device::SaveDevice;
 
 impl<K: ChannelPort + Drop, D: SaveDevice, E: Energy, B: BoardName + PartsName> Desk<K, D, E, B> {

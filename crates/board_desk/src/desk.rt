@@ -5,14 +5,13 @@ ghost use Rattle.board_desk.specs.Desk.{desk_view};
 ghost use Rattle.board_desk.specs.Kept.{IsDeskKept};
 
 use crate::board_port::BoardPort;
+use board_hosts::{AcceptedCount, BoardName, BoardSeat, MarkBoard};
 use channel_locks::PartsName;
 use channel_log::{ChannelLogs, FrontSeat};
 use channel_port::ChannelPort;
 use channel_set::PortTerms;
 use energy_budget::Energy;
 use line_memory::History;
-use mark_board::{BoardSeat, MarkBoard};
-use nv_workers::{AcceptedCount, BoardName};
 use save_device::SaveDevice;
 use split_module::SplitFront;
 use std::alloc::Global;

@@ -1,15 +1,15 @@
 // A host's write and read at a desk, as the host is told of them.
 ghost use Rattle.std.specs.Prelude.{◌≡◌, IfErr, IfOk, Err, Ok};
-ghost use Rattle.nv_workers.specs.Client.{SeesNoLess};
+ghost use Rattle.board_hosts.specs.Client.{SeesNoLess};
 
 use crate::desk::Desk;
 use arm_state::{ReadRefusal, WriteRefusal};
+use board_hosts::{BoardName, GotAt, Host, Receipt};
 use channel_locks::{LockedChannel, PartsName};
 use channel_port::ChannelPort;
 use energy_budget::Energy;
 use line_memory::Write;
 use nv_machine::{Event, Reply};
-use nv_workers::{BoardName, GotAt, Host, Receipt};
 use save_device::SaveDevice;
 
 impl<K: ChannelPort, D: SaveDevice, E: Energy, B: BoardName + PartsName> Desk<K, D, E, B> {

@@ -4,18 +4,18 @@ ghost use Rattle.std.specs.List.{sum_by};
 ghost use Rattle.channel_part.specs.declared.part.Part.{Part};
 ghost use Rattle.line_memory.specs.History.{TellsSameFrom};
 ghost use Rattle.nv_machine.specs.State.{Machine};
-ghost use Rattle.nv_workers.specs.Kept.{whole_record};
-ghost use Rattle.nv_workers.specs.Lived.{IsInLife};
+ghost use Rattle.board_hosts.specs.Kept.{whole_record};
+ghost use Rattle.board_hosts.specs.Lived.{IsInLife};
 ghost use Rattle.board_desk.specs.declared.desk.Desk.{Desk};
 ghost use Rattle.board_desk.specs.Credits.{AreParts, owed_in};
 ghost use Rattle.board_desk.specs.Desk.{DeskStands, DeskView, setup_at, world_at};
 ghost use Rattle.board_desk.specs.Surviving.{DeskSurvives};
 ghost use Rattle.board_desk.specs.Views.{desk_of};
 
+use board_hosts::BoardName;
 use channel_locks::PartsName;
 use channel_port::ChannelPort;
 use energy_budget::Energy;
-use nv_workers::BoardName;
 use save_device::SaveDevice;
 
 /// What lies behind the board's lock is in a life, whatever the channels did since under their own locks: some events led from a

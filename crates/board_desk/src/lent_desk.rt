@@ -18,13 +18,12 @@ ghost use Rattle.board_desk.specs.declared.pieces.RecordedPieces.{RecordedPieces
 use crate::desk::Desk;
 use crate::loans::restore;
 use crate::pieces::RecordedPieces;
+use board_hosts::{AcceptedCount, BoardName, BoardSeat, MarkBoard, publish};
 use channel_locks::PartsName;
 use channel_log::{ChannelLogs, ChannelSeat, FrontSeat};
 use channel_part::Part;
 use channel_port::ChannelPort;
 use energy_budget::Energy;
-use mark_board::{BoardSeat, MarkBoard};
-use nv_workers::{AcceptedCount, BoardName, publish};
 use save_device::SaveDevice;
 use split_module::SplitModule;
 use std::alloc::Global;

@@ -9,12 +9,12 @@ ghost use Rattle.board_desk.specs.Loans.{ComesBack, HaveLent, IsReadyToLend, res
 
 use crate::board_port::BoardPort;
 use crate::desk::Desk;
+use board_hosts::BoardName;
 use channel_locks::PartsName;
 use channel_log::{ChannelLogs, ChannelSeat, FrontSeat, Standing};
 use channel_part::Part;
 use channel_port::ChannelPort;
 use energy_budget::Energy;
-use nv_workers::BoardName;
 use save_device::SaveDevice;
 use std::marker::Brand;
 

@@ -3,10 +3,10 @@ ghost use Rattle.std.specs.Prelude.{◌≡◌, true};
 ghost use Rattle.std.specs.Option.{is_some};
 
 use crate::desk::Desk;
+use board_hosts::BoardName;
 use channel_locks::PartsName;
 use channel_port::ChannelPort;
 use energy_budget::Energy;
-use nv_workers::BoardName;
 use save_device::SaveDevice;
 
 /// The desk of a board, which is there whenever the board's lock is free.

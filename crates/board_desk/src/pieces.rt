@@ -10,11 +10,11 @@ ghost use Rattle.board_desk.specs.Losing.{DrainsBehind, LedAtOnce, WhereUndraine
 use crate::board_port::BoardPort;
 use crate::calling::{WholeCall, lose_mains};
 use arm_state::Loss;
+use board_hosts::RecordedModule;
 use channel_locks::PartsName;
 use channel_port::ChannelPort;
 use energy_budget::Energy;
 use line_memory::History;
-use nv_workers::RecordedModule;
 use save_device::SaveDevice;
 use split_module::SplitModule;
 use std::thread::Threads;

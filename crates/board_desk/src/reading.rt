@@ -1,16 +1,15 @@
 // A host's read, with the part of its line's channel.
 ghost use Rattle.std.specs.Prelude.{◌≡◌, ◌<◌, IfErr, IfOk, Err, Ok};
-ghost use Rattle.mark_board.specs.SeenMarks.{IsNotAbove, seen_marks};
+ghost use Rattle.board_hosts.specs.SeenMarks.{IsNotAbove, seen_marks};
 
 use crate::desk::Desk;
 use crate::noting::look_at;
 use arm_state::ReadRefusal;
+use board_hosts::{BoardName, GotAt, HostSeat};
 use channel_locks::{LockedChannel, PartsName};
 use channel_port::ChannelPort;
 use energy_budget::Energy;
-use mark_board::HostSeat;
 use nv_machine::{Event, Reply};
-use nv_workers::{BoardName, GotAt};
 use save_device::SaveDevice;
 use split_module::{SplitFront, read_on};
 use std::marker::Brand;

@@ -1,14 +1,14 @@
 // What is asked of a desk alone: a saver's turn, and whether its record bears out what hosts were told.
 ghost use Rattle.std.specs.Prelude.{◌≡◌, IfErr, IfOk};
 ghost use Rattle.nv_machine.specs.State.{Machine};
-ghost use Rattle.nv_workers.specs.Ending.{AreChecked, IsStranger};
-ghost use Rattle.nv_workers.specs.Savers.{turn_of};
+ghost use Rattle.board_hosts.specs.Ending.{AreChecked, IsStranger};
+ghost use Rattle.board_hosts.specs.Savers.{turn_of};
 
 use crate::desk::Desk;
+use board_hosts::{BoardName, Cut, Receipt, SaverTurn, Seen, Stranger, check, turn_at};
 use channel_locks::PartsName;
 use channel_port::ChannelPort;
 use energy_budget::Energy;
-use nv_workers::{BoardName, Cut, Receipt, SaverTurn, Seen, Stranger, check, turn_at};
 use save_device::SaveDevice;
 
 impl<K: ChannelPort, D: SaveDevice, E: Energy, B: BoardName + PartsName> Desk<K, D, E, B> {

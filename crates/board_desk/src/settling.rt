@@ -3,10 +3,10 @@ ghost use Rattle.std.specs.Prelude.{◌≡◌};
 
 use crate::desk::Desk;
 use crate::noting::look_at;
+use board_hosts::BoardName;
 use channel_locks::{LockedChannel, PartsName};
 use channel_port::ChannelPort;
 use energy_budget::Energy;
-use nv_workers::BoardName;
 use save_device::SaveDevice;
 use split_module::take_back;
 use std::marker::Brand;

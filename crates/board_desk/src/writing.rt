@@ -1,20 +1,19 @@
 // A host's write and read, with the part of its line's channel.
 ghost use Rattle.std.specs.Prelude.{◌≡◌, ◌+◌, ◌<◌, ◌++◌, length, IfErr, IfOk};
-ghost use Rattle.mark_board.specs.SeenMarks.{IsNotAbove, seen_marks};
+ghost use Rattle.board_hosts.specs.SeenMarks.{IsNotAbove, seen_marks};
 ghost use Rattle.module_core.specs.Fronts.{AcceptsOne};
 ghost use Rattle.nv_machine.specs.Rising.{added};
-ghost use Rattle.nv_workers.specs.Marks.{ShowsNoMore};
+ghost use Rattle.board_hosts.specs.Marks.{ShowsNoMore};
 
 use crate::desk::Desk;
 use crate::noting::note_write;
 use arm_state::WriteRefusal;
+use board_hosts::{BoardName, BoardSeat, HostSeat, MarkBoard, publish};
 use channel_locks::{LockedChannel, PartsName};
 use channel_port::ChannelPort;
 use energy_budget::Energy;
 use line_memory::Write;
-use mark_board::{BoardSeat, HostSeat, MarkBoard};
 use nv_machine::{Accepted, Event, Reply};
-use nv_workers::{BoardName, publish};
 use save_device::SaveDevice;
 use split_module::{SplitFront, write_on};
 use std::marker::Brand;

@@ -14,10 +14,10 @@ use Rattle.channel_locks.specs.declared.parts_name.PartsName.{Ghosts as PartsGho
 use Rattle.module_core.specs.declared.front.Front.{Front}
 use Rattle.nv_machine.specs.State.{Machine, stored_base, stored_writes, start_of_life}
 use Rattle.nv_machine.specs.Lives.{LivedUntil}
-use Rattle.nv_workers.specs.Ending.{AreChecked}
-use Rattle.nv_workers.specs.declared.board_name.BoardName.{Ghosts as BoardGhosts}
-use Rattle.nv_workers.specs.declared.host.Receipt.{Receipt}
-use Rattle.nv_workers.specs.declared.recorded_module.RecordedModule.{RecordedModule}
+use Rattle.board_hosts.specs.Ending.{AreChecked}
+use Rattle.board_hosts.specs.declared.board_name.BoardName.{Ghosts as BoardGhosts}
+use Rattle.board_hosts.specs.declared.host.Receipt.{Receipt}
+use Rattle.board_hosts.specs.declared.recorded_module.RecordedModule.{RecordedModule}
 use Rattle.worker_turns.specs.declared.awaiting.Seen.{Seen}
 use Rattle.board_desk.specs.Desk.{DeskStands, DeskView, desk_view, setup_at, shape_named}
 use Rattle.split_board.specs.Starting.{LiesBehindLocks}

@@ -11,8 +11,8 @@ use Rattle.channel_port.specs.declared.port.ChannelPort.{Ghosts}
 use Rattle.module_core.specs.Stands.{setup_of}
 use Rattle.nv_machine.specs.State.{Setup}
 use Rattle.nv_profile.specs.declared.profile.Profile.{Profile}
-use Rattle.nv_workers.specs.declared.host.Receipt.{Receipt}
-use Rattle.nv_workers.specs.declared.recorded_module.RecordedModule.{RecordedModule}
+use Rattle.board_hosts.specs.declared.host.Receipt.{Receipt}
+use Rattle.board_hosts.specs.declared.recorded_module.RecordedModule.{RecordedModule}
 use Rattle.worker_turns.specs.declared.awaiting.Seen.{Seen}
 use Rattle.ddr4_boards.specs.Restored.{RecordsRestored}
 use Rattle.ddr4_boards.specs.Setup.{IsSetupOf}

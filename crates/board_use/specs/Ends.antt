@@ -13,10 +13,10 @@ use Rattle.ddr4_port.specs.Memory.{shape_over}
 use Rattle.nv_machine.specs.Lives.{LivedUntil}
 use Rattle.nv_machine.specs.State.{Machine, Setup, all_of, base_of_life, start_of_life, stored_base, stored_writes}
 use Rattle.nv_profile.specs.declared.profile.Profile.{Profile}
-use Rattle.nv_workers.specs.Ending.{AreChecked}
-use Rattle.nv_workers.specs.declared.host.Receipt.{Receipt}
+use Rattle.board_hosts.specs.Ending.{AreChecked}
+use Rattle.board_hosts.specs.declared.host.Receipt.{Receipt}
 use Rattle.worker_turns.specs.declared.awaiting.Seen.{Seen}
-use Rattle.nv_workers.specs.declared.recorded_module.RecordedModule.{RecordedModule}
+use Rattle.board_hosts.specs.declared.recorded_module.RecordedModule.{RecordedModule}
 use Rattle.channel_port.specs.declared.port.ChannelPort.{Ghosts}
 use Rattle.channel_set.specs.Set.{shape_of}
 use Rattle.slot_store.specs.Told.{Refuses}

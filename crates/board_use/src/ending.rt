@@ -1,18 +1,18 @@
 // How a board ends that was used.
 ghost use Rattle.std.specs.Prelude.{◌≡◌, ◌++◌, length, IfOk, List, OnOk};
-ghost use Rattle.nv_workers.specs.declared.host.Receipt.{Receipt};
+ghost use Rattle.board_hosts.specs.declared.host.Receipt.{Receipt};
 ghost use Rattle.worker_turns.specs.declared.awaiting.Seen.{Seen};
 ghost use Rattle.board_desk.specs.Desk.{shape_named};
 ghost use Rattle.board_use.specs.Ends.{EndsLife, answers_of, receipts_of};
 
 use crate::hosting::HostEnd;
 use arm_state::Loss;
+use board_hosts::{BoardName, Closed, Cut, Host, Receipt, RecordedModule, Seen, Stranger};
 use channel_locks::PartsName;
 use channel_port::ChannelPort;
 use energy_budget::Energy;
 use line_memory::History;
 use notice_book::Notices;
-use nv_workers::{BoardName, Closed, Cut, Host, Receipt, RecordedModule, Seen, Stranger};
 use save_device::SaveDevice;
 use split_board::{Board, NotClosed, close};
 use std::alloc::{AllocError, Global};

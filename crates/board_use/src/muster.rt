@@ -1,5 +1,5 @@
 // How far the threads of a board are.
-use nv_workers::{Gate, Turn};
+use board_hosts::{Gate, Turn};
 use std::sync::Wait;
 use std::sync::atomic::{AtomicBool, AtomicU64, Ordering};
 use std::time::Clock;

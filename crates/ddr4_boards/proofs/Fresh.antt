@@ -5,8 +5,8 @@ use Rattle.std.proofs.Math.Nat.{ℕ_set}
 use Rattle.line_memory.specs.History.{Recorded}
 use Rattle.channel_port.specs.declared.port.ChannelPort.{Ghosts}
 use Rattle.save_device.specs.declared.device.SaveDevice.{Ghosts as DeviceGhosts}
-use Rattle.nv_workers.specs.Kept.{IsOfNewLife}
-use Rattle.nv_workers.specs.declared.recorded_module.RecordedModule.{RecordedModule}
+use Rattle.board_hosts.specs.Kept.{IsOfNewLife}
+use Rattle.board_hosts.specs.declared.recorded_module.RecordedModule.{RecordedModule}
 
 module _ {K D E : Type 0} (L : Ghosts K) (M : DeviceGhosts D) (it : RecordedModule K D E L) (fresh : IsOfNewLife L M it) where
   pub none_accepted : it.running.front.accepted ≡ it.running.front.terms.start

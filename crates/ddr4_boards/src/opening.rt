@@ -19,6 +19,7 @@ ghost use Rattle.ddr4_boards.specs.Restored.{HadOneRefused, HadOneRestore, IsTol
 ghost use Rattle.ddr4_boards.specs.Setup.{IsSetupOf};
 
 use crate::ready::Ready;
+use board_hosts::{Opening, RecordedModule};
 use channel_port::ChannelPort;
 use ddr4_module::Sizes;
 use ddr4_port::Ddr4Port;
@@ -29,7 +30,6 @@ use interleave_map::line_map::LineMap;
 use line_memory::{History, Line};
 use module_core::Module;
 use nv_profile::Profile;
-use nv_workers::{Opening, RecordedModule};
 use save_device::{MemoryDevice, SaveDevice};
 use slot_store::{RestoreError, Restored, device_size, format, restore_at_once};
 use split_board::BoardTables;

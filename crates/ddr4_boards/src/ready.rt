@@ -1,15 +1,15 @@
 // A module with its record and the tables of its board, before the board has a name.
 ghost use Rattle.std.specs.Prelude.{◌≡◌, ◌+◌, ◌≤◌, [], length, vec_len, All, IfErr, IfOk};
 ghost use Rattle.module_core.specs.Stands.{HasDevice, setup_of};
-ghost use Rattle.nv_workers.specs.Client.{client};
-ghost use Rattle.nv_workers.specs.Kept.{IsOfNewLife, IsRecordKept};
+ghost use Rattle.board_hosts.specs.Client.{client};
+ghost use Rattle.board_hosts.specs.Kept.{IsOfNewLife, IsRecordKept};
 ghost use Rattle.ddr4_boards.specs.Naming.{IsNamed};
 
+use board_hosts::{BoardName, NotStarted, RecordedModule};
 use channel_locks::PartsName;
 use channel_port::ChannelPort;
 use energy_budget::Energy;
 use notice_book::Notices;
-use nv_workers::{BoardName, NotStarted, RecordedModule};
 use save_device::SaveDevice;
 use split_board::{BoardTables, Started, start};
 use std::alloc::Global;

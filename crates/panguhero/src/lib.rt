@@ -46,6 +46,7 @@
 #![tactic(auto)]
 
 pub use arm_state::{ArmRefusal, ArmReply, Loss, ReadRefusal, WriteRefusal};
+pub use board_hosts::{Always, BoardName, Cut, Host, Receipt, RecordedModule, Seen, Stranger};
 pub use board_use::{
     BoardEnd, BoardUse, HostEnd, LifeEnd, Mains, MeteredBoard, NoNotices, NotUsed, Unchecked,
     WhyNot, with_board,
@@ -60,7 +61,6 @@ pub use line_memory::{History, Line, Write};
 pub use module_core::Module;
 pub use notice_book::Persisted;
 pub use nv_profile::{Profile, ProfileFault, TINY, read_profile};
-pub use nv_workers::{Always, BoardName, Cut, Host, Receipt, RecordedModule, Seen, Stranger};
 pub use persistent_write::{NotPersistent, write_persistent};
 pub use save_device::{MemoryDevice, SaveDevice};
 pub use slot_store::{RestoreError, Restored, Verdict, restore};

@@ -9,7 +9,7 @@ use Rattle.std.proofs.lemmas.List.{get_or_past}
 use Rattle.std.proofs.lemmas.List.Elements.{All-map}
 use Rattle.std.proofs.lemmas.List.FromFn.{get_or-range_with_len, length-range_with_len}
 use Rattle.atomic_table.specs.Seated.{TableId}
-use Rattle.mark_board.specs.SeenMarks.{SeenMarks, seen_marks}
+use Rattle.board_hosts.specs.SeenMarks.{SeenMarks, seen_marks}
 use Rattle.line_memory.specs.Memory.{IsMemory}
 use Rattle.arm_state.specs.Modes.{has_ended}
 use Rattle.save_device.specs.declared.device.SaveDevice.{Ghosts as DeviceGhosts}
@@ -24,9 +24,9 @@ use Rattle.channel_locks.specs.Lines.{channels_of_lines}
 use Rattle.channel_locks.specs.PortMakes.{PortMake}
 use Rattle.channel_locks.specs.declared.parts_name.PartsName.{Ghosts as PartsGhosts}
 use Rattle.nv_machine.specs.State.{base_of_life}
-use Rattle.nv_workers.specs.Kept.{IsRecordKept}
-use Rattle.nv_workers.specs.declared.board_name.BoardName.{Ghosts as BoardGhosts}
-use Rattle.nv_workers.specs.declared.recorded_module.RecordedModule.{RecordedModule}
+use Rattle.board_hosts.specs.Kept.{IsRecordKept}
+use Rattle.board_hosts.specs.declared.board_name.BoardName.{Ghosts as BoardGhosts}
+use Rattle.board_hosts.specs.declared.recorded_module.RecordedModule.{RecordedModule}
 use Rattle.split_module.specs.Telling.{AreOwn}
 use Rattle.split_module.specs.Gathering.{FitAsModule, IsMadeOf, StandsSplit}
 use Rattle.split_module.specs.declared.gathering.SplitModule.{SplitModule}

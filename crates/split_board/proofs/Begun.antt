@@ -32,10 +32,10 @@ use Rattle.module_saves.specs.Device.{Holds}
 use Rattle.module_core.specs.Fronts.{setup_in}
 use Rattle.module_core.specs.Stands.{Matches, setup_of}
 use Rattle.nv_machine.specs.State.{Machine, Setup, base_of_life, hold_of, start_of_life, stored_base}
-use Rattle.nv_workers.specs.Kept.{StandsWith}
+use Rattle.board_hosts.specs.Kept.{StandsWith}
 use Rattle.nv_machine.specs.Lives.{LivedUntil}
-use Rattle.nv_workers.specs.Lived.{world_for}
-use Rattle.nv_workers.specs.declared.recorded_module.RecordedModule.{RecordedModule}
+use Rattle.board_hosts.specs.Lived.{world_for}
+use Rattle.board_hosts.specs.declared.recorded_module.RecordedModule.{RecordedModule}
 use Rattle.split_module.proofs.ReadLines.{lived_has, told_has}
 use Rattle.split_module.specs.Telling.{AreLogsOf, AreOwn, IsToldOf, laid_out, waits_told, written_in}
 use Rattle.split_module.specs.Gathering.{FitAsModule, IsMadeOf, StandsSplit, shape_in}

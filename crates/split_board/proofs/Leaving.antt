@@ -3,7 +3,7 @@ use Rattle.std.proofs.Common.{Err, IfErr, IfOk, Ok, Option, Result}
 use Rattle.arm_state.specs.declared.refusal.WriteRefusal.{WriteRefusal}
 use Rattle.channel_part.specs.declared.part.Part.{Part}
 use Rattle.channel_port.specs.declared.port.ChannelPort.{Ghosts}
-use Rattle.nv_workers.specs.declared.host.Receipt.{Receipt}
+use Rattle.board_hosts.specs.declared.host.Receipt.{Receipt}
 use Rattle.board_desk.specs.Answering.{DoneWithLent, KeepsPort, PutsWrite}
 use Rattle.split_board.specs.Hosts.{WritesLent}
 

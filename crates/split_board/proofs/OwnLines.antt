@@ -8,7 +8,7 @@ use Rattle.channel_port.specs.declared.answers.Got.TheVariants.{Later}
 use Rattle.channel_port.specs.declared.answers.Ticket.{Ticket}
 use Rattle.channel_port.specs.declared.port.ChannelPort.{Ghosts}
 use Rattle.energy_budget.specs.declared.energy.Energy.{Ghosts as GaugeGhosts}
-use Rattle.nv_workers.specs.declared.board_name.BoardName.{Ghosts as BoardGhosts}
+use Rattle.board_hosts.specs.declared.board_name.BoardName.{Ghosts as BoardGhosts}
 use Rattle.save_device.specs.declared.device.SaveDevice.{Ghosts as DeviceGhosts}
 use Rattle.worker_turns.specs.Lookouts.{EndsWaiting}
 use Rattle.worker_turns.specs.declared.awaiting.Seen.{Seen}

@@ -15,10 +15,10 @@ use Rattle.channel_locks.specs.declared.parts_name.PartsName.{Ghosts as PartsGho
 use Rattle.channel_locks.specs.Lent.{IsLentBy, LentRoom}
 use Rattle.nv_machine.specs.declared.events.Event.TheVariants as events
 use Rattle.nv_machine.specs.declared.events.Reply.TheVariants as replies
-use Rattle.nv_workers.specs.declared.board_name.BoardName.{Ghosts as BoardGhosts}
-use Rattle.nv_workers.specs.declared.host.GotAt.{GotAt}
-use Rattle.nv_workers.specs.declared.host.Receipt.{Receipt}
-use Rattle.nv_workers.specs.Client.{Client}
+use Rattle.board_hosts.specs.declared.board_name.BoardName.{Ghosts as BoardGhosts}
+use Rattle.board_hosts.specs.declared.host.GotAt.{GotAt}
+use Rattle.board_hosts.specs.declared.host.Receipt.{Receipt}
+use Rattle.board_hosts.specs.Client.{Client}
 use Rattle.board_desk.specs.declared.desk.Desk.{Desk}
 use Rattle.board_desk.specs.Answering.{DeskAnswers, DoneWithLent, IsAskedFor, KeepsPort, PutsWrite, ReadsLine}
 use Rattle.board_desk.specs.Hosting.{HostWritesAtDesk}

@@ -2,7 +2,7 @@
 use Rattle.std.specs.Prelude.{◌≡◌, ℕ, ◌<◌, ◌≤◌, All, List, map}
 use Rattle.std.specs.List.{range_with_len}
 use Rattle.channel_locks.specs.declared.parts_name.PartsName.{Ghosts as PartsGhosts}
-use Rattle.nv_workers.specs.declared.board_name.BoardName.{Ghosts as BoardGhosts}
+use Rattle.board_hosts.specs.declared.board_name.BoardName.{Ghosts as BoardGhosts}
 
 module _ {B : Type 0} (O : BoardGhosts B) (P : PartsGhosts B) where
   -- The table has the channel of each line, by where the board's lines lie; each is one of the board's channels, of which there are

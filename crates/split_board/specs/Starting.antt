@@ -9,9 +9,9 @@ use Rattle.channel_set.specs.Set.{shape_of}
 use Rattle.channel_locks.specs.PortMakes.{PortMake}
 use Rattle.channel_locks.specs.declared.parts_name.PartsName.{Ghosts as PartsGhosts}
 use Rattle.channel_locks.specs.declared.unlocked.UnlockedChannels.{UnlockedChannels}
-use Rattle.nv_workers.specs.Kept.{IsRecordKept}
-use Rattle.nv_workers.specs.declared.board_name.BoardName.{Ghosts as BoardGhosts}
-use Rattle.nv_workers.specs.declared.recorded_module.RecordedModule.{RecordedModule}
+use Rattle.board_hosts.specs.Kept.{IsRecordKept}
+use Rattle.board_hosts.specs.declared.board_name.BoardName.{Ghosts as BoardGhosts}
+use Rattle.board_hosts.specs.declared.recorded_module.RecordedModule.{RecordedModule}
 use Rattle.board_desk.specs.Closing.{HaveModule}
 use Rattle.board_desk.specs.declared.desk.Desk.{Desk}
 

@@ -7,16 +7,16 @@ use Rattle.energy_budget.specs.declared.energy.Energy.{Ghosts as GaugeGhosts}
 use Rattle.channel_port.specs.declared.port.ChannelPort.{Ghosts}
 use Rattle.channel_locks.specs.declared.parts_name.PartsName.{Ghosts as PartsGhosts}
 use Rattle.nv_machine.specs.State.{Machine}
-use Rattle.nv_workers.specs.declared.board_name.BoardName.{Ghosts as BoardGhosts}
-use Rattle.nv_workers.specs.declared.checking.Cut.{Cut}
-use Rattle.nv_workers.specs.declared.checking.Stranger.{Stranger}
-use Rattle.nv_workers.specs.declared.host.Receipt.{Receipt}
+use Rattle.board_hosts.specs.declared.board_name.BoardName.{Ghosts as BoardGhosts}
+use Rattle.board_hosts.specs.declared.checking.Cut.{Cut}
+use Rattle.board_hosts.specs.declared.checking.Stranger.{Stranger}
+use Rattle.board_hosts.specs.declared.host.Receipt.{Receipt}
 use Rattle.worker_turns.specs.declared.awaiting.Seen.{Seen}
-use Rattle.nv_workers.specs.declared.saver.Saving.{Saving}
+use Rattle.board_hosts.specs.declared.saver.Saving.{Saving}
 use Rattle.nv_machine.specs.declared.events.StepReply.TheVariants as step
-use Rattle.nv_workers.specs.declared.saver.Saving.TheVariants.{Began, Stepped, Rested, Closed}
-use Rattle.nv_workers.specs.Ending.{AreChecked, IsStranger}
-use Rattle.nv_workers.specs.Savers.{turn_of, turn_taken, working_of}
+use Rattle.board_hosts.specs.declared.saver.Saving.TheVariants.{Began, Stepped, Rested, Closed}
+use Rattle.board_hosts.specs.Ending.{AreChecked, IsStranger}
+use Rattle.board_hosts.specs.Savers.{turn_of, turn_taken, working_of}
 use Rattle.worker_turns.specs.declared.Gate.{Ghosts as GateGhosts}
 use Rattle.worker_turns.specs.declared.shift.Working.{Working}
 use Rattle.board_desk.specs.declared.desk.Desk.{Desk}

@@ -2,11 +2,11 @@
 use crate::board::Board;
 use crate::claim::Claim;
 use arm_state::ReadRefusal;
+use board_hosts::{BoardName, Seen};
 use channel_locks::{LockedChannels, PartsName};
 use channel_port::{ChannelPort, Collected, Ticket};
 use energy_budget::Energy;
 use notice_book::Notices;
-use nv_workers::{BoardName, Seen};
 use save_device::SaveDevice;
 use std::sync::Wait;
 use std::thread;

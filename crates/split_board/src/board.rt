@@ -4,11 +4,11 @@ ghost use Rattle.board_desk.specs.Answering.{IsAskedFor};
 ghost use Rattle.split_board.specs.Lines.{AreLinesOfBoard};
 
 use board_desk::{Desk, LockedDesk};
+use board_hosts::BoardName;
 use channel_locks::{LineChannels, LockedChannels, PartsName};
 use channel_port::ChannelPort;
 use energy_budget::Energy;
 use notice_book::Notices;
-use nv_workers::BoardName;
 use save_device::SaveDevice;
 use std::sync::Mutex;
 

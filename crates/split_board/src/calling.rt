@@ -8,12 +8,12 @@ use arm_state::{ArmRefusal, ArmReply, DisarmReply, Loss};
 use board_desk::{
     ArmCall, BoardPort, DisarmCall, SaveBeginCall, SaveStepCall, SenseCall, WholeCall, lose, whole,
 };
+use board_hosts::BoardName;
 use channel_locks::{PartsName, take_lock};
 use channel_port::ChannelPort;
 use energy_budget::Energy;
 use notice_book::Notices;
 use nv_machine::StepReply;
-use nv_workers::BoardName;
 use save_device::SaveDevice;
 use std::sync::Wait;
 use std::thread::Threads;

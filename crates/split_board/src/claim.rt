@@ -1,6 +1,6 @@
 // What a line that was asked for comes to.
+use board_hosts::Seen;
 use channel_port::Ticket;
-use nv_workers::Seen;
 use std::marker::PhantomData;
 
 /// A read that waits, of one board. `Board::ask` alone makes a claim, for the host that asked, and `Board::await_line` takes it: so

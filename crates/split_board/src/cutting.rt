@@ -3,11 +3,11 @@ ghost use Rattle.split_board.specs.Wholes.{CutsLocked, LentForCut};
 
 use crate::board::Board;
 use board_desk::{CutCall, LockedDesk, whole};
+use board_hosts::{BoardName, Cut, Receipt, Seen, Stranger};
 use channel_locks::{LockedChannels, PartsName, take_lock};
 use channel_port::ChannelPort;
 use energy_budget::Energy;
 use notice_book::Notices;
-use nv_workers::{BoardName, Cut, Receipt, Seen, Stranger};
 use save_device::SaveDevice;
 use std::sync::Wait;
 

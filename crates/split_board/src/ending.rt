@@ -1,17 +1,17 @@
 // The end of a board.
 ghost use Rattle.std.specs.Prelude.{◌≡◌, ◌+◌, ◌≤◌, All, length, sum_by, IfErr, IfOk};
 ghost use Rattle.board_desk.specs.declared.desk.Desk.{Desk};
-ghost use Rattle.nv_workers.specs.Ending.{HasChecked, IsStranger, cut};
-ghost use Rattle.nv_workers.specs.Kept.{IsRecordKept};
+ghost use Rattle.board_hosts.specs.Ending.{HasChecked, IsStranger, cut};
+ghost use Rattle.board_hosts.specs.Kept.{IsRecordKept};
 ghost use Rattle.split_board.specs.Starting.{LiesBehindLocks};
 
 use crate::board::Board;
 use board_desk::{BoardPort, Desk, LockedDesk, gather_all};
+use board_hosts::{BoardName, Closed, Host, Receipt, Seen, Stranger};
 use channel_locks::PartsName;
 use channel_port::ChannelPort;
 use energy_budget::Energy;
 use notice_book::Notices;
-use nv_workers::{BoardName, Closed, Host, Receipt, Seen, Stranger};
 use save_device::SaveDevice;
 
 /// A board that wasn't closed, since a receipt or an answer is a stranger to its life. Its hosts are as they were.

@@ -1,14 +1,14 @@
 // A host that waits until a write is persistent.
 ghost use Rattle.std.specs.Prelude.{◌≡◌, ◌<◌, ◌≤◌, true, IfErr, IfOk};
 ghost use Rattle.channel_locks.specs.Lent.{LentEnd};
-ghost use Rattle.nv_workers.specs.Client.{SeesNoLess};
+ghost use Rattle.board_hosts.specs.Client.{SeesNoLess};
 
 use crate::board::Board;
+use board_hosts::{BoardName, Host, Receipt};
 use channel_locks::PartsName;
 use channel_port::ChannelPort;
 use energy_budget::Energy;
 use notice_book::{Notices, Persisted};
-use nv_workers::{BoardName, Host, Receipt};
 use save_device::SaveDevice;
 use std::sync::Wait;
 use std::time::Clock;

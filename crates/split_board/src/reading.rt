@@ -1,18 +1,18 @@
 // A host's read.
 ghost use Rattle.std.specs.Prelude.{◌≡◌, ◌<◌, IfErr, IfOk, Err, Ok};
 ghost use Rattle.board_desk.specs.Answering.{IsAskedFor, IsTicketOf};
-ghost use Rattle.nv_workers.specs.Client.{SeesNoLess};
+ghost use Rattle.board_hosts.specs.Client.{SeesNoLess};
 ghost use Rattle.split_board.specs.Turns.{ServesFirst, ServesOnce, TellsOwn};
 ghost use Rattle.split_board.specs.Hosts.{AnswersAskAtBoard, AnswersReadAtBoard, HasLostLine, HasReadLine, TellsAskAtBoard, asked_at};
 
 use crate::board::Board;
 use crate::claim::{Asked, Claim};
 use arm_state::ReadRefusal;
+use board_hosts::{BoardName, GotAt, Host, Seen};
 use channel_locks::{LockedChannel, PartsName, take_lock};
 use channel_port::{ChannelPort, Collected, Got, Ticket};
 use energy_budget::Energy;
 use notice_book::Notices;
-use nv_workers::{BoardName, GotAt, Host, Seen};
 use save_device::SaveDevice;
 use std::marker::PhantomData;
 use std::sync::Wait;

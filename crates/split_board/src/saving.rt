@@ -5,12 +5,12 @@ ghost use Rattle.split_board.specs.Wholes.{LentTurnOfSaver, SavesLocked, WorksAs
 
 use crate::board::Board;
 use board_desk::{LockedDesk, SaveBeginCall, SaveStepCall, whole};
+use board_hosts::{BoardName, SaverTurn, Saving, working_of};
 use channel_locks::{LockedChannels, PartsName, take_lock};
 use channel_port::ChannelPort;
 use energy_budget::Energy;
 use notice_book::Notices;
 use nv_machine::StepReply;
-use nv_workers::{BoardName, SaverTurn, Saving, working_of};
 use save_device::SaveDevice;
 use std::sync::Wait;
 use std::thread;

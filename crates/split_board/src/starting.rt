@@ -1,12 +1,12 @@
 // How a board begins.
 ghost use Rattle.std.specs.Prelude.{◌≡◌, ◌+◌, ◌≤◌, [], vec_capacity, vec_len, All, IfOk, IfErr};
 ghost use Rattle.std.specs.Arc.{arc_value};
-ghost use Rattle.mark_board.specs.SeenMarks.{AllHaveSeen, seen_marks};
+ghost use Rattle.board_hosts.specs.SeenMarks.{AllHaveSeen, seen_marks};
 ghost use Rattle.channel_log.specs.Seats.{all_logs};
 ghost use Rattle.channel_set.specs.Set.{shape_of};
 ghost use Rattle.channel_locks.specs.Lines.{channels_of_lines};
-ghost use Rattle.nv_workers.specs.Client.{client};
-ghost use Rattle.nv_workers.specs.Kept.{IsRecordKept};
+ghost use Rattle.board_hosts.specs.Client.{client};
+ghost use Rattle.board_hosts.specs.Kept.{IsRecordKept};
 ghost use Rattle.board_desk.specs.Closing.{HaveModule};
 ghost use Rattle.split_board.specs.Lines.{AreLinesOfBoard};
 ghost use Rattle.split_board.specs.Starting.{IsBoardOf, LiesBehindLocks, make_with};
@@ -15,16 +15,16 @@ use crate::board::Board;
 use crate::dealing::begin_channels;
 use crate::tables::BoardTables;
 use board_desk::{BoardPort, Desk};
+use board_hosts::{
+    AcceptedCount, BoardName, BoardSeat, Host, HostSeat, MarkBoard, NotStarted, Opening,
+    RecordedModule, publish, seated,
+};
 use channel_locks::{LineChannels, LockedChannel, PartsName, UnlockedChannels};
 use channel_log::{ChannelLogs, ChannelSeat, FrontSeat};
 use channel_port::ChannelPort;
 use channel_set::ChannelSet;
 use energy_budget::Energy;
-use mark_board::{BoardSeat, HostSeat, MarkBoard};
 use notice_book::Notices;
-use nv_workers::{
-    AcceptedCount, BoardName, Host, NotStarted, Opening, RecordedModule, publish, seated,
-};
 use save_device::SaveDevice;
 use split_module::SplitModule;
 use std::alloc::{AllocError, Global};

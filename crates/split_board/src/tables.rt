@@ -2,8 +2,8 @@
 ghost use Rattle.std.specs.Prelude.{◌≡◌, [], IfOk};
 ghost use Rattle.channel_log.specs.Seats.{all_logs};
 
+use board_hosts::Opening;
 use channel_log::{ChannelLogs, FrontSeat};
-use nv_workers::Opening;
 use std::alloc::{AllocError, Global};
 
 /// The words, the ledger and the channels' logs of a board that isn't there yet. No channel has a log yet. Its caller makes them,

@@ -1,14 +1,14 @@
 // The notices of a board.
 ghost use Rattle.std.specs.Prelude.{◌≡◌, ◌≤◌, IfErr, IfOk, OnErr, OnOk};
 ghost use Rattle.notice_book.specs.NoticeBooks.{refused_notice};
-ghost use Rattle.nv_workers.specs.Client.{delivered_at, seen_at};
+ghost use Rattle.board_hosts.specs.Client.{delivered_at, seen_at};
 
 use crate::board::Board;
+use board_hosts::{BoardName, Host, Receipt};
 use channel_locks::PartsName;
 use channel_port::ChannelPort;
 use energy_budget::Energy;
 use notice_book::{Called, InsertRefusal, Notices};
-use nv_workers::{BoardName, Host, Receipt};
 use save_device::SaveDevice;
 use std::alloc::{AllocError, Global};
 use std::sync::Wait;

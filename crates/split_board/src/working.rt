@@ -3,11 +3,11 @@ ghost use Rattle.std.specs.Prelude.{◌≡◌, ◌<◌};
 ghost use Rattle.split_board.specs.Turns.{TakesChannelTurn, WorksByGate, going_on};
 
 use crate::board::Board;
+use board_hosts::BoardName;
 use channel_locks::{ChannelTurn, LockedChannels, PartsName};
 use channel_port::ChannelPort;
 use energy_budget::Energy;
 use notice_book::Notices;
-use nv_workers::BoardName;
 use save_device::SaveDevice;
 use std::sync::Wait;
 use std::time::Clock;

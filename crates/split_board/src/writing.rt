@@ -1,17 +1,17 @@
 // A host's write.
 ghost use Rattle.std.specs.Prelude.{◌<◌};
 ghost use Rattle.board_desk.specs.Answering.{IsAskedFor};
-ghost use Rattle.nv_workers.specs.Client.{SeesNoLess};
+ghost use Rattle.board_hosts.specs.Client.{SeesNoLess};
 ghost use Rattle.split_board.specs.Hosts.{LentForWrite, WritesAtBoard};
 
 use crate::board::Board;
 use arm_state::WriteRefusal;
+use board_hosts::{BoardName, Host, Receipt};
 use channel_locks::{PartsName, take_lock};
 use channel_port::ChannelPort;
 use energy_budget::Energy;
 use line_memory::Write;
 use notice_book::Notices;
-use nv_workers::{BoardName, Host, Receipt};
 use save_device::SaveDevice;
 use std::sync::Wait;
 

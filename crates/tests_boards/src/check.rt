@@ -1,13 +1,13 @@
 // How the tests compare, and what they begin with.
 ghost use Rattle.std.specs.Prelude.{◌≡◌};
 
+use board_hosts::{Receipt, Seen};
 use ddr4_boards::{Ready, formatted, open};
 use ddr4_port::Ddr4Port;
 use energy_budget::Meter;
 use interleave_map::ReadyMap;
 use line_memory::Write;
 use nv_profile::{Profile, TINY, read_profile};
-use nv_workers::{Receipt, Seen};
 use save_device::MemoryDevice;
 use std::alloc::Global;
 use std::fmt::Debug;

@@ -2,11 +2,11 @@
 ghost use Rattle.std.specs.Prelude.{◌≡◌, length};
 
 use crate::check::same;
+use board_hosts::{BoardName, Closed, Cut, Host, Receipt, RecordedModule, Seen, Stranger};
 use channel_locks::PartsName;
 use channel_port::ChannelPort;
 use energy_budget::Energy;
 use notice_book::Notices;
-use nv_workers::{BoardName, Closed, Cut, Host, Receipt, RecordedModule, Seen, Stranger};
 use save_device::SaveDevice;
 use split_board::{Board, NotClosed, close};
 use std::process::Abort;

@@ -1,5 +1,5 @@
 // Gates of the tests.
-use nv_workers::{Gate, Turn};
+use board_hosts::{Gate, Turn};
 use std::sync::atomic::{AtomicBool, AtomicU64, Ordering};
 
 /// Lets one worker go so many turns, and then stops it. Any other is stopped at once.

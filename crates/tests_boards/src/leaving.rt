@@ -10,11 +10,11 @@ use crate::quiet::{
 };
 use crate::sleeping::watch_sleeps;
 use crate::started::{HOSTS, started};
+use board_hosts::BoardName;
 use channel_locks::PartsName;
 use channel_port::ChannelPort;
 use ddr4_boards::Ready;
 use energy_budget::Energy;
-use nv_workers::BoardName;
 use save_device::SaveDevice;
 use split_board::Started;
 use std::alloc::Global;

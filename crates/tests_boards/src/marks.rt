@@ -1,9 +1,9 @@
 // Boards of marks from their opening to the join of their seats. The expected values are worked out by hand.
 ghost use Rattle.std.specs.Prelude.{◌≡◌, ◌≤◌};
-ghost use Rattle.mark_board.specs.SeenMarks.{seen_marks};
+ghost use Rattle.board_hosts.specs.SeenMarks.{seen_marks};
 
 use crate::check::same;
-use mark_board::{BoardSeat, HostSeat, MarkBoard};
+use board_hosts::{BoardSeat, HostSeat, MarkBoard};
 use std::alloc::Global;
 use std::process::Abort;
 use std::thread::join;

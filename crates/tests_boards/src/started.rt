@@ -3,11 +3,11 @@ ghost use Rattle.std.specs.Prelude.{◌≡◌, vec_len};
 ghost use Rattle.ddr4_boards.specs.Naming.{IsNamed};
 
 use crate::silent::Silent;
+use board_hosts::BoardName;
 use channel_locks::PartsName;
 use channel_port::ChannelPort;
 use ddr4_boards::Ready;
 use energy_budget::Energy;
-use nv_workers::BoardName;
 use save_device::SaveDevice;
 use split_board::Started;
 use std::alloc::Global;

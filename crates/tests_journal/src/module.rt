@@ -1,6 +1,7 @@
 // A journal in a module, over a loss of mains.
 ghost use Rattle.std.specs.Prelude.{◌≡◌};
 
+use board_hosts::RecordedModule;
 use channel_port::ChannelPort;
 use ddr4_boards::{Ready, formatted, open};
 use ddr4_port::Ddr4Port;
@@ -9,7 +10,6 @@ use interleave_map::{Interleaving, ReadyMap};
 use line_memory::zero_memory;
 use module_journal::{AppendRefusal, Journal, TruncateRefusal};
 use nv_profile::{Profile, TINY, read_profile};
-use nv_workers::RecordedModule;
 use save_device::MemoryDevice;
 use slot_store::restore;
 use std::alloc::Global;

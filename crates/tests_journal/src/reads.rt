@@ -1,6 +1,7 @@
 // Records that are read while a life runs.
 use crate::module::{LINES, map_of, opened, small};
 use arm_state::ReadRefusal;
+use board_hosts::RecordedModule;
 use channel_port::ChannelPort;
 use ddr4_boards::Ready;
 use energy_budget::Meter;
@@ -9,7 +10,6 @@ use line_memory::zero_memory;
 use module_core::Module;
 use module_journal::Journal;
 use nv_machine::StepReply;
-use nv_workers::RecordedModule;
 use save_device::MemoryDevice;
 use std::alloc::Global;
 use std::process::Abort;

@@ -3,6 +3,7 @@ ghost use Rattle.module_core.specs.Stands.{HasDevice};
 
 use crate::check::{AMPLE, fresh, same, tiny};
 use arm_state::WriteRefusal;
+use board_hosts::RecordedModule;
 use channel_port::ChannelPort;
 use ddr4_boards::{Ready, open};
 use energy_budget::Meter;
@@ -12,7 +13,6 @@ use module_core::Module;
 use notice_book::Persisted;
 use nv_machine::StepReply;
 use nv_profile::Profile;
-use nv_workers::RecordedModule;
 use persistent_write::{NotPersistent, write_persistent};
 use save_device::{Fuse, SaveDevice};
 use std::alloc::Global;

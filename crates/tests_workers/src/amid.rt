@@ -6,6 +6,7 @@ use crate::check::{AMPLE, CHANNELS, LINES, first_receipt, opened, same, tiny, wr
 use crate::inside::HeldAmid;
 use crate::silent::Silent;
 use arm_state::{ArmReply, Loss, WriteRefusal};
+use board_hosts::{Always, BoardName, Closed, Ended, Host, Receipt, RecordedModule};
 use channel_locks::PartsName;
 use channel_port::ChannelPort;
 use ddr4_boards::{Ready, open};
@@ -13,7 +14,6 @@ use energy_budget::{Energy, Meter};
 use interleave_map::{Interleaving, ReadyMap};
 use line_memory::History;
 use notice_book::Notices;
-use nv_workers::{Always, BoardName, Closed, Ended, Host, Receipt, RecordedModule};
 use save_device::SaveDevice;
 use split_board::{Board, Started, channel_worker, close};
 use std::alloc::{AllocError, Global};

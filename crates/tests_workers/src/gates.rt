@@ -1,5 +1,5 @@
 // Gates of the tests.
-use nv_workers::{Gate, Turn};
+use board_hosts::{Gate, Turn};
 use std::sync::atomic::{AtomicBool, Ordering};
 use std::thread;
 use std::time::{Clock, Duration};

@@ -1,5 +1,5 @@
 use Rattle.std.proofs.Math.Logic.{∥∥₁_map}
-use Rattle.nv_workers.proofs.Living.{in_life}
+use Rattle.board_hosts.proofs.Living.{in_life}
 use Rattle.board_desk.specs.Desk.{setup_at, world_at}
 use Rattle.board_desk.specs.Views.{desk_of}
 use Rattle.board_desk.proofs.laws.desks_keep_lives.Goals as goal

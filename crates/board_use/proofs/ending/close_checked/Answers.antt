@@ -1,7 +1,7 @@
 use Rattle.std.proofs.Common.{◌≡◌, ◌∙◌, List, sym, subst, IfOk, Result}
-use Rattle.nv_workers.specs.Ending.{AreChecked, cut}
-use Rattle.nv_workers.specs.declared.checking.Cut.{Cut}
-use Rattle.nv_workers.specs.declared.host.Receipt.{Receipt}
+use Rattle.board_hosts.specs.Ending.{AreChecked, cut}
+use Rattle.board_hosts.specs.declared.checking.Cut.{Cut}
+use Rattle.board_hosts.specs.declared.host.Receipt.{Receipt}
 use Rattle.worker_turns.specs.declared.awaiting.Seen.{Seen}
 use Rattle.board_use.specs.declared.ending.Unchecked.{Unchecked}
 use Rattle.board_use.specs.Ends.{answers_of, receipts_of}

@@ -1,9 +1,9 @@
 use Rattle.std.proofs.Common.{arith, sym, subst, ℕ, All, Bool, true, false, MatchBool, [], IfOk, Result}
 use Rattle.std.proofs.lemmas.Option.{slice_get_within}
 use Rattle.line_memory.specs.History.{Recorded}
-use Rattle.nv_workers.specs.Ending.{AreChecked, IsBorneOutOrPast, IsFirstStranger, IsFirstWithout, StandsOrIsPast}
-use Rattle.nv_workers.specs.declared.checking.Stranger.{Stranger}
-use Rattle.nv_workers.specs.declared.checking.Cut.{Cut}
+use Rattle.board_hosts.specs.Ending.{AreChecked, IsBorneOutOrPast, IsFirstStranger, IsFirstWithout, StandsOrIsPast}
+use Rattle.board_hosts.specs.declared.checking.Stranger.{Stranger}
+use Rattle.board_hosts.specs.declared.checking.Cut.{Cut}
 use Rattle.board_use.specs.declared.ending.Unchecked.{Unchecked}
 use Rattle.board_use.proofs.Ends.{ends_life}
 use Rattle.board_use.proofs.ending.close_unchecked.Goals as goal

@@ -1,7 +1,7 @@
 use Rattle.std.proofs.Common.{rules, ◌≡◌, ◌∙◌, ◌+◌, ◌∷◌, ◌++◌, [], ℕ, suc, List, ap, arith, get_or, sym, take}
 use Rattle.std.proofs.Math.Seq.{take-suc}
 use Rattle.std.proofs.lemmas.List.{take_all}
-use Rattle.nv_workers.specs.declared.host.Receipt.{Receipt}
+use Rattle.board_hosts.specs.declared.host.Receipt.{Receipt}
 use Rattle.worker_turns.specs.declared.awaiting.Seen.{Seen}
 use Rattle.board_use.specs.declared.hosting.HostEnd.{HostEnd}
 use Rattle.board_use.specs.Ends.{answers_of, receipts_of}

@@ -1,7 +1,7 @@
 use Rattle.std.proofs.Common.{◌∙◌, ℕ, List, [], ap, refl, subst, sym}
 use Rattle.line_memory.specs.History.{recorded}
 use Rattle.nv_machine.specs.State.{Setup}
-use Rattle.nv_workers.specs.Opening.{OpeningView}
+use Rattle.board_hosts.specs.Opening.{OpeningView}
 use Rattle.ddr4_boards.specs.Setup.{IsSetupOf}
 use Rattle.ddr4_boards.proofs.opening.begin.Goals as goal
 

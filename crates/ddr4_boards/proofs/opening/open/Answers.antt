@@ -12,11 +12,11 @@ use Rattle.slot_store.specs.declared.restoring.RestoreError.{RestoreError}
 use Rattle.channel_port.specs.declared.port.ChannelPort.{Ghosts}
 use Rattle.save_device.specs.declared.device.SaveDevice.{Ghosts as DeviceGhosts}
 use Rattle.nv_machine.specs.State.{Setup}
-use Rattle.nv_workers.specs.declared.recorded_module.RecordedModule.{RecordedModule}
+use Rattle.board_hosts.specs.declared.recorded_module.RecordedModule.{RecordedModule}
 use Rattle.module_core.specs.Opening.{opened_with}
 use Rattle.module_core.specs.Stands.{ModuleStands}
-use Rattle.nv_workers.specs.Kept.{HasJustBegun}
-use Rattle.nv_workers.proofs.Beginning.{begun_is_kept, begun_is_whole}
+use Rattle.board_hosts.specs.Kept.{HasJustBegun}
+use Rattle.board_hosts.proofs.Beginning.{begun_is_kept, begun_is_whole}
 use Rattle.ddr4_boards.specs.Restored.{HadOneRefused, HadOneRestore}
 use Rattle.ddr4_boards.proofs.Restoring.{had_one_refused, refused_by_faults, restored_spared}
 use Rattle.ddr4_boards.proofs.opening.open.Goals as goal

@@ -1,7 +1,7 @@
 use Rattle.std.proofs.Common.{◌∙◌, ℕ, ap, refl, subst, sym}
 use Rattle.std.specs.Option.{unwrap_or}
 use Rattle.line_memory.specs.History.{Recorded, cut_at}
-use Rattle.nv_workers.specs.Ending.{AreChecked}
+use Rattle.board_hosts.specs.Ending.{AreChecked}
 use Rattle.split_board.proofs.cutting.cut_locked.Goals as goal
 
 pub returns-in-Ok : goal.returns-in-Ok

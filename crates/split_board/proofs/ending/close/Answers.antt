@@ -1,7 +1,7 @@
 use Rattle.std.proofs.Common.{◌≡◌, ◌∙◌, ap, subst, sym}
 use Rattle.module_core.specs.declared.front.Front.{Front}
 use Rattle.line_memory.specs.History.{Recorded}
-use Rattle.nv_workers.specs.Ending.{AreChecked}
+use Rattle.board_hosts.specs.Ending.{AreChecked}
 use Rattle.board_desk.specs.Closing.{HaveModule}
 use Rattle.split_board.proofs.ending.close.Goals as goal
 

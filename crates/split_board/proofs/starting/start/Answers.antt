@@ -1,10 +1,10 @@
 use Rattle.std.proofs.Common.{List, ◌≡◌, ◌≤◌, ◌∙◌, All, [], ap, subst, sym}
 use Rattle.atomic_table.specs.Seated.{TableId}
-use Rattle.mark_board.specs.SeenMarks.{AllHaveSeen, SeenMarks, seen_marks}
-use Rattle.nv_workers.specs.Client.{Client, client}
-use Rattle.nv_workers.specs.Marks.{ShowsNoMore}
-use Rattle.nv_workers.specs.Opening.{OpeningView}
-use Rattle.nv_workers.proofs.Holding.{opening_shows_no_more}
+use Rattle.board_hosts.specs.SeenMarks.{AllHaveSeen, SeenMarks, seen_marks}
+use Rattle.board_hosts.specs.Client.{Client, client}
+use Rattle.board_hosts.specs.Marks.{ShowsNoMore}
+use Rattle.board_hosts.specs.Opening.{OpeningView}
+use Rattle.board_hosts.proofs.Holding.{opening_shows_no_more}
 use Rattle.split_board.proofs.starting.start.Goals as goal
 
 pub prepare-requires-clause-seats : goal.prepare-requires-clause-seats

@@ -1,7 +1,7 @@
 use Rattle.std.proofs.Common.{refl}
 use Rattle.nv_machine.specs.declared.events.Event.TheVariants as events
 use Rattle.nv_machine.specs.declared.events.Reply.TheVariants as replies
-use Rattle.nv_workers.proofs.Holding.{has_device}
+use Rattle.board_hosts.proofs.Holding.{has_device}
 use Rattle.board_desk.proofs.Called.{goes_by_event}
 use Rattle.board_desk.proofs.Quiet.{issues_none}
 use Rattle.board_desk.proofs.calling.ArmCallWholeCall.call.Goals as goal

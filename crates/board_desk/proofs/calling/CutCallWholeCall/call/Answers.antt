@@ -1,6 +1,6 @@
 use Rattle.std.proofs.Common.{ap, arith, ℕ, ◌∙◌, ◌≤◌}
 use Rattle.line_memory.specs.History.{cut_at}
-use Rattle.nv_workers.proofs.Keeping.{counted_with, starts_with}
+use Rattle.board_hosts.proofs.Keeping.{counted_with, starts_with}
 use Rattle.board_desk.proofs.CutCalled.{goes_by_cut}
 use Rattle.channel_set.specs.Issuing.{issued_in}
 use Rattle.channel_set.specs.declared.set.ChannelSet.{ChannelSet}

@@ -12,7 +12,7 @@ use Rattle.channel_log.specs.Seats.{AllLogs, OneLog}
 use Rattle.channel_log.specs.declared.entry.LogEntry.TheVariants.{Looked}
 use Rattle.channel_part.specs.Stands.{PartStands}
 use Rattle.channel_port.specs.View.{PortView}
-use Rattle.mark_board.specs.SeenMarks.{seen_marks}
+use Rattle.board_hosts.specs.SeenMarks.{seen_marks}
 use Rattle.nv_machine.specs.State.{Machine, base_of_life}
 use Rattle.nv_machine.specs.declared.events.Event.{Event}
 use Rattle.nv_machine.specs.declared.events.Reply.{Reply}

@@ -1,5 +1,5 @@
 use Rattle.std.proofs.Common.{refl, ◌∙◌}
-use Rattle.nv_workers.specs.Savers.{turn_of}
+use Rattle.board_hosts.specs.Savers.{turn_of}
 use Rattle.board_desk.proofs.desk.Desk.saver_turn.Goals as goal
 
 pub returns : goal.returns

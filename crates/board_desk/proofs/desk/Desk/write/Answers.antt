@@ -5,7 +5,7 @@ use Rattle.std.specs.Arc.{arc_value}
 use Rattle.atomic_table.specs.Seated.{TableId}
 use Rattle.channel_locks.specs.declared.parts_name.PartsName.{Ghosts as PartsGhosts}
 use Rattle.channel_locks.specs.Slots.{IsPartWhereDue, IsSlotKept}
-use Rattle.mark_board.specs.SeenMarks.{seen_marks}
+use Rattle.board_hosts.specs.SeenMarks.{seen_marks}
 use Rattle.nv_machine.specs.Rising.{added}
 use Rattle.nv_machine.specs.State.{Machine}
 use Rattle.arm_state.specs.declared.refusal.WriteRefusal.{WriteRefusal}

@@ -3,7 +3,7 @@ use Rattle.arm_state.specs.declared.refusal.WriteRefusal.{WriteRefusal}
 use Rattle.nv_machine.specs.declared.events.Accepted.{Accepted}
 use Rattle.nv_machine.specs.declared.events.Event.TheVariants as events
 use Rattle.nv_machine.specs.declared.events.Reply.TheVariants as replies
-use Rattle.nv_workers.proofs.Common.{Client, Ok, Result, SeenMarks, told_at}
+use Rattle.board_hosts.proofs.Common.{Client, Ok, Result, SeenMarks, told_at}
 use Rattle.board_desk.specs.Answering.{DeskAnswers}
 use Rattle.board_desk.specs.Views.{desk_of}
 use Rattle.board_desk.proofs.desk.Desk.write_in.Goals.{in-Ok, in-Err}

@@ -1,6 +1,6 @@
 -- The desk is put together behind a call.
 use Rattle.std.proofs.Common.{ap, ◌∙◌}
-use Rattle.mark_board.specs.SeenMarks.{seen_marks}
+use Rattle.board_hosts.specs.SeenMarks.{seen_marks}
 use Rattle.board_desk.specs.Asking.{pieces_with}
 use Rattle.board_desk.proofs.Frames.{all_restated, did_then}
 use Rattle.board_desk.proofs.KeptWhole.{call_answers, kept_whole, shows_whole}

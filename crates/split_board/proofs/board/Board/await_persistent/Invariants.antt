@@ -1,5 +1,5 @@
 use Rattle.std.proofs.Common.{◌≡◌}
-use Rattle.nv_workers.specs.Client.{SeesNoLess}
+use Rattle.board_hosts.specs.Client.{SeesNoLess}
 use Rattle.split_board.proofs.board.Board.await_persistent.Given as goal
 
 -- the host has looked, and else is as it was

@@ -1,4 +1,4 @@
-use Rattle.nv_workers.proofs.IfOkGives.{if_ok_gives}
+use Rattle.board_hosts.proofs.IfOkGives.{if_ok_gives}
 use Rattle.split_board.proofs.board.Board.deliver.Goals as goal
 
 pub returns-clause-delivered : goal.returns-clause-delivered

@@ -1,4 +1,4 @@
-use Rattle.nv_workers.proofs.IfOkGives.{if_ok_gives, if_err_gives}
+use Rattle.board_hosts.proofs.IfOkGives.{if_ok_gives, if_err_gives}
 use Rattle.split_board.proofs.board.Board.notify.Goals as goal
 
 pub insert_notice-requires : goal.insert_notice-requires

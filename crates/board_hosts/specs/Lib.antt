@@ -1,0 +1,11 @@
+pub mod SeenMarks
+pub mod MarkRule
+pub mod Boards
+pub mod Client
+pub mod Ending
+pub mod Kept
+pub mod Lived
+pub mod Marks
+pub mod Opening
+pub mod Savers
+pub mod Steps

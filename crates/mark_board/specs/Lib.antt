@@ -1,2 +1,0 @@
-pub mod SeenMarks
-pub mod MarkRule

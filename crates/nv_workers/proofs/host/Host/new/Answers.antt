@@ -1,6 +1,0 @@
-use Rattle.std.proofs.Common.{ap}
-use Rattle.nv_workers.proofs.Common.{client}
-use Rattle.nv_workers.proofs.host.Host.new.Goals as goal
-
-pub returns : goal.returns
-returns g c = ap (client c.args.seat.accepted c.args.seat.persisted c.args.share.amount) c.new.ensures

@@ -1,5 +1,0 @@
-use Rattle.nv_workers.proofs.CutRecords.{records_tell}
-use Rattle.nv_workers.proofs.laws.records_tell_lives.Goals as goal
-
-pub returns : goal.returns
-returns g c = records_tell g.K.ChannelPort g.D.SaveDevice

@@ -1,5 +1,0 @@
-use Rattle.std.proofs.Common.{refl}
-use Rattle.nv_workers.proofs.saver.needs_save.Goals as goal
-
-pub returns-in-Stranded : goal.returns-in-Stranded
-returns-in-Stranded c = rw c.in-Stranded.is refl

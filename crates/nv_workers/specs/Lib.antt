@@ -1,9 +1,0 @@
-pub mod Boards
-pub mod Client
-pub mod Ending
-pub mod Kept
-pub mod Lived
-pub mod Marks
-pub mod Opening
-pub mod Savers
-pub mod Steps
