@@ -13,3 +13,4 @@ pub mod Ended
 pub mod Chains
 pub mod Issued
 pub mod Lawful
+pub mod Kept

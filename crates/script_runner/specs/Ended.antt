@@ -1,9 +1,11 @@
 -- The lives of a run, and what the channels of each have issued.
-use Rattle.std.specs.Prelude.{◌≡◌, ℕ, true, if◌then◌else◌, List, [], ◌∷◌, ◌++◌, Option, Some, None, length, map}
+use Rattle.std.specs.Prelude.{◌≡◌, ℕ, ◌+◌, true, if◌then◌else◌, List, [], ◌∷◌, ◌++◌, Option, Some, None, length, map}
 use Rattle.ddr4_timing.specs.declared.command.Stamped.{Stamped}
 use Rattle.channel_port.specs.declared.port.ChannelPort.{Ghosts}
 use Rattle.channel_set.specs.Issuing.{issued_in}
 use Rattle.module_core.specs.declared.module.Module.{Module}
+use Rattle.nv_script.specs.declared.answer.Answer.{Answer}
+use Rattle.nv_script.specs.declared.answer.Answer.TheVariants as answer
 use Rattle.nv_script.specs.declared.line.ScriptLine.{ScriptLine}
 use Rattle.nv_session.specs.declared.session.Session.{Session}
 use Rattle.nv_session.specs.declared.wires.Wires as wires
@@ -20,6 +22,24 @@ Lives = List (List (List Stamped))
 pub record Kept : Type 0 where
   pub lives : Lives
   pub counts : List (List ℕ)
+
+-- How many lives an answer tells to begin, and how many answers do.
+abbrev pub begun_by : Answer → ℕ
+begun_by answer.Formatted = 1
+begun_by (answer.Restored generation count verdict) = 1
+begun_by other = 0
+
+abbrev pub lives_told : List Answer → ℕ
+lives_told [] = 0
+lives_told (given ∷ later) = begun_by given + lives_told later
+
+-- What is kept of a run of these lines, by the answers that followed those before: as many lives as they tell to begin; and counts before
+-- each line, and at the end.
+pub record IsKeptOf (asked : List ScriptLine) (before after : List Answer) (kept : Kept) : Type 0 where
+  pub given : List Answer
+  pub grown_by : after ≡ before ++ given
+  pub lives : length kept.lives ≡ lives_told given
+  pub counts : length kept.counts ≡ length asked + 1
 
 -- nothing yet
 abbrev pub nothing : Kept

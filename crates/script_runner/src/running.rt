@@ -6,7 +6,7 @@ ghost use Rattle.save_device.specs.Memory.{state_of};
 ghost use Rattle.slot_store.specs.Slots.{HasSize};
 ghost use Rattle.nv_script.specs.declared.answer.Answer.{Answer};
 ghost use Rattle.nv_script.specs.Line.{NamesChannelOf};
-ghost use Rattle.script_runner.specs.Ended.{nothing};
+ghost use Rattle.script_runner.specs.Ended.{IsKeptOf, nothing};
 ghost use Rattle.script_runner.specs.Wiring.{IsMapOf, IsWiredFor};
 ghost use Rattle.script_runner.specs.Runs.{IsKeptRun, IsKeptRunOn, IsRun};
 ghost use Rattle.script_runner.specs.Scripts.{EndsScript, EndsScriptBy, IsBadText, RunsScript};
@@ -106,6 +106,8 @@ pub fn do_lines_kept<'m, M: LineMap, R: Report>(
         ⟦<Wiring<'m, M> as Wires<Ddr4Port<'m, M>>>⟧
         (IsWiredFor lines_map.now xor_map.now profile.now) profile.now
         lines.now (R.answers report.old) (R.answers report.new) book.new device) }
+    ensures kept { OnOk result (IfSome book.new (IsKeptOf lines.now
+        (R.answers report.old) (R.answers report.new))) }
     ensures cut { IfErr result (λ fault. AreCutShort (lines_of profile.now.checked.geometry)
         lines.now (R.answers report.old) (R.answers report.new)) }
     ensures unrefused { OnOk result (R.refusals report.new ≡ R.refusals report.old) }
@@ -125,7 +127,8 @@ pub fn do_lines_kept<'m, M: LineMap, R: Report>(
 /// shows 0 and has no leak; it does line by line, each with the line's own words, and each answer tells of what its line did: the
 /// answers are those of a chain of lives, and what the channels of the last one have issued keeps the timing rules. Answers the device
 /// as the lines left it. A new book that is open has all commands that the channels of each life have issued, those of the one that runs
-/// at the end too, and how many they were before each line and at the end; where memory gave out for them it has none.
+/// at the end too, and how many they were before each line and at the end: of as many lives as the answers tell to begin. Where memory gave
+/// out for them it has none.
 pub fn do_lines_on<'m, M: LineMap, R: Report>(
     alloc: Global,
     profile: &Profile,
@@ -148,6 +151,8 @@ pub fn do_lines_on<'m, M: LineMap, R: Report>(
         ⟦<Wiring<'m, M> as Wires<Ddr4Port<'m, M>>>⟧
         (IsWiredFor lines_map.now xor_map.now profile.now) profile.now (state_of device).bytes
         lines.now (R.answers report.old) (R.answers report.new) book.new after) }
+    ensures kept { OnOk result (IfSome book.new (IsKeptOf lines.now
+        (R.answers report.old) (R.answers report.new))) }
     ensures cut { IfErr result (λ fault. AreCutShort (lines_of profile.now.checked.geometry)
         lines.now (R.answers report.old) (R.answers report.new)) }
     ensures unrefused { OnOk result (R.refusals report.new ≡ R.refusals report.old) }

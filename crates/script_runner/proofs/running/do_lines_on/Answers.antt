@@ -11,6 +11,7 @@ use Rattle.nv_session.specs.Living.{IsShapeFor}
 use Rattle.script_runner.specs.Wiring.{IsWiredFor, WiredMaps, wired_shape}
 use Rattle.script_runner.proofs.Chains.{lives_in_chain}
 use Rattle.script_runner.proofs.Ended.{all_lives}
+use Rattle.script_runner.proofs.Kept.{kept_told}
 use Rattle.script_runner.proofs.running.do_lines_on.Goals as goal
 
 pub answer_lines-requires : goal.answer_lines-requires
@@ -50,3 +51,6 @@ returns-clause-runs g c =
       device_is = cc;
     } in
     record { run = run; lists = all_lives done.all.answered.story first last kept c.note_last.new.book noted.ended c.note_last.ensures.notes }
+
+pub returns-clause-kept : goal.returns-clause-kept
+returns-clause-kept g c = kept_told _ _ _ _ _ _ _ _ c.note_last.new.book _ (returns-clause-runs g c)
