@@ -3,11 +3,14 @@ use Rattle.std.proofs.Common.{◌≡◌, ◌<◌, ℕ, List, [], ◌∷◌, ◌+
 use Rattle.std.proofs.lemmas.List.FromFn.{get_or-map-range_with_len}
 use Rattle.ddr4_port.proofs.Common.{AddsWrite, AllBelow, AnswersGet, Carries, ChannelState, Checked, Geometry}
 use Rattle.ddr4_port.proofs.Common.{IsRightPort, KeepsCarried, LiesOn, Numbered, Place, WritesAt, after, after_get}
-use Rattle.ddr4_port.proofs.Common.{line_at, line_of, lines_of, listed_place, places_by, port_state, waits_of}
+use Rattle.ddr4_port.proofs.Common.{line_at, line_of, lines_of, listed_place, map-append, places_by, port_state, waiting_on, waits_of}
 use Rattle.line_memory.specs.Parts.{AreBefore, numbered, writes_of}
 use Rattle.line_memory.specs.declared.Write.{Write}
 use Rattle.channel_port.specs.declared.answers.Got.{Got}
 use Rattle.channel_port.specs.declared.stage.Stage.{Stage}
+use Rattle.channel_port.specs.declared.waiting.Waiting.{Waiting}
+use Rattle.channel_port.specs.View.{with_write}
+use Rattle.ddr4_port.specs.Port.{port_view}
 use Rattle.channel_port.specs.Answers.{IsGot}
 use Rattle.channel_set.specs.Ports.{nowhere}
 use Rattle.ddr4_port.proofs.Putting.{above-there, carries-more}
@@ -23,6 +26,13 @@ places_of f s = listed_place (places_by f s.checked.geometry)
 -- where the profile stays, so do the places
 pub carries-seen : (f : ℕ → Place) (s t : ChannelState) → t.checked ≡ s.checked → KeepsCarried (Carries (places_of f s) s) (Carries (places_of f s) t) → KeepsCarried (Carries (places_of f s) s) (Carries (places_of f t) t)
 carries-seen f s t checked keeps base mine c = subst (λ (k : Checked). Carries (listed_place (places_by f k.geometry)) t base mine) (sym checked) (keeps base mine c)
+
+-- a channel with one write more
+pub put-view : (f : ℕ → Place) (stage : Stage) (s t : ChannelState) (number : ℕ) (write : Write) (place : Place) → AddsWrite s number place write.«data» t
+    → port_view (port_state f stage t) ≡ with_write number (port_view (port_state f stage s))
+put-view f stage s t number write place adds =
+    ap (λ (x : ChannelState). port_view (port_state f stage x)) adds.same
+    ∙ ap (λ (ws : List Waiting). record (port_view (port_state f stage s)) { waits = record (waits_of s) { writes = ws } }) (map-append (waiting_on s.channel) s.writes _)
 
 module _ (f : ℕ → Place) (stage : Stage) (s : ChannelState) (right : IsRightPort (port_state f stage s)) where
   own-line : (line : ℕ) (place : Place) → line < lines_of s.checked.geometry → place ≡ places_of f s line → place.channel ≡ s.channel → LiesOn (places_of f s) s line

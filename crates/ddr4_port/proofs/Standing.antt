@@ -1,9 +1,10 @@
 -- What is always true of a port is true after each of its calls.
-use Rattle.std.proofs.Common.{◌≡◌, ℕ, map, [], ap, subst, sym, ◌∙◌}
+use Rattle.std.proofs.Common.{◌≡◌, ℕ, ◌+◌, ◌^◌, ◌<◌, map, [], ap, subst, sym, ◌∙◌}
 use Rattle.ddr4_port.proofs.Common.{Carries, ChannelState, Checked, Done, Geometry, HasMap, HasNothingToSend, IfNone}
 use Rattle.ddr4_port.proofs.Common.{IfSome, IsAtStage, IsChannel, IsInterleaving, IsRightPort, IssuesChoice}
 use Rattle.ddr4_port.proofs.Common.{KeepsCarried, LosesReads, Option, Place, listed_place, places_by, port_state}
 use Rattle.ddr4_port.proofs.Common.{with_hold}
+use Rattle.frfcfs.specs.Margin.{last_clock}
 use Rattle.frfcfs.specs.Queue.{held_by}
 use Rattle.channel_port.specs.declared.stage.Stage.{Stage}
 use Rattle.channel_port.specs.declared.stage.Stage.TheVariants.{Drained, OnBackup, OnMains}
@@ -27,6 +28,17 @@ module _ (lawful : Type 0) (of_map : Geometry) (f : ℕ → Place) (s t : Channe
       staged = staged;
     },
   )
+
+  -- only what waits changes, and which of it is held back
+  pub right-kept : (stage : Stage) → t.phase ≡ s.phase → t.commands ≡ s.commands → t.tickets ≡ s.tickets → IsPort lawful of_map f stage s → IsPort lawful of_map f stage t
+  right-kept stage phase commands tickets right = right-then stage stage right (record {
+    mains = λ on. let runs = right.1.staged.mains on in record { running = phase ∙ runs.running; early = subst (λ cs. last_clock cs < 2 ^ 62 + 2 ^ 24) (sym commands) runs.early };
+    backup = λ on. let awaits = right.1.staged.backup on in record {
+      stepping = phase ∙ awaits.stepping;
+      can = subst (CanDrain t.checked) (sym commands) (subst (λ (c : Checked). CanDrain c s.commands) (sym checked) awaits.can);
+    };
+    lost = λ off. tickets ∙ right.1.staged.lost off;
+  })
 
   -- it issues a command, or none
   pub right-worked : (stage : Stage) (result : Option Done) → stage ≡ OnMains → IsPort lawful of_map f stage s → IfSome result (λ done. ¬ HasNothingToSend s) → IfNone result (t ≡ s) → IfSome result (λ done. IssuesChoice s done t)

@@ -7,7 +7,7 @@ use std::alloc::{AllocError, Global};
 impl<'m, M: LineMap> CopyValue for Ddr4Port<'m, M> {
     fn copy(&self, alloc: Global) -> Result<Self, AllocError> {
         Ok(Ddr4Port {
-            channel: self.channel.copy(alloc)?,
+            channel: Box::new(alloc, self.channel.copy(alloc)?)?,
             map: self.map,
             stage: self.stage,
         })

@@ -67,7 +67,7 @@ impl<'m, M: LineMap> Ddr4Port<'m, M> {
         let channel = unused_channel(alloc, checked, number, depth, reads, keeps_commands)?;
         channel.always();
         Ok(Ddr4Port {
-            channel,
+            channel: Box::new(alloc, channel)?,
             map,
             stage: Stage::OnMains,
         })

@@ -10,25 +10,27 @@ use interleave_map::line_map::LineMap;
 use line_memory::{Line, Write};
 use std::marker::Model;
 
-/// A DDR4 channel, and the map that says where each line of the host lies.
+/// A DDR4 channel, and the map that says where each line of the host lies. The channel stays where it is as its port goes from place to
+/// place.
 #[derive(Drop)]
 pub struct Ddr4Port<'m, M: LineMap> {
-    pub(crate) channel: Channel,
+    pub(crate) channel: Box<Channel>,
     pub(crate) map: &'m M,
     pub(crate) stage: Stage,
 }
 
 impl<'m, M: LineMap> Model for Ddr4Port<'m, M> {
-    ghost use Rattle.std.specs.Prelude.{◌≡◌};
+    ghost use Rattle.std.specs.Prelude.{◌≡◌, box_value};
     ghost use Rattle.ddr4_port.specs.Port.{HasMap, IsRightPort, PortState, port_state};
 
     ghost Value = { PortState };
 
-    ghost view = { λ p. port_state (M.place_of p.map.now) p.stage p.channel };
+    ghost view = { λ p. port_state (M.place_of p.map.now) p.stage (box_value p.channel) };
 
     ghost invariant = { λ p.
-        HasMap (M.is_lawful p.map.now) (M.geometry_of p.map.now) p.channel.checked.geometry
-        × IsRightPort (port_state (M.place_of p.map.now) p.stage p.channel) };
+        HasMap (M.is_lawful p.map.now) (M.geometry_of p.map.now)
+        (box_value p.channel).checked.geometry
+        × IsRightPort (port_state (M.place_of p.map.now) p.stage (box_value p.channel)) };
 }
 
 impl<'m, M: LineMap> Ddr4Port<'m, M> {
@@ -36,7 +38,7 @@ impl<'m, M: LineMap> Ddr4Port<'m, M> {
     pub fn channel(&self) -> &Channel
         ensures { result.now ≡ self.now.channel }
     {
-        &self.channel
+        &*self.channel
     }
 }
 
@@ -126,7 +128,7 @@ impl<'m, M: LineMap> ChannelPort for Ddr4Port<'m, M> {
 
     fn drain<E: Energy>(&mut self, costs: &Costs, energy: &mut E) -> Result<(), Dark> {
         self.stage = Stage::Drained;
-        let drained = drain_paying(&mut self.channel, costs, energy);
+        let drained = drain_paying(&mut *self.channel, costs, energy);
         self.channel.always();
         match drained {
             Ok(_) => Ok(()),
@@ -136,7 +138,7 @@ impl<'m, M: LineMap> ChannelPort for Ddr4Port<'m, M> {
 
     fn drain_paid(&mut self, costs: &Costs) {
         self.stage = Stage::Drained;
-        drain(&mut self.channel, costs);
+        drain(&mut *self.channel, costs);
         self.channel.always();
     }
 

@@ -6,9 +6,9 @@ pub returns-clause-covers : goal.returns-clause-covers
 returns-clause-covers g c =
     let right = c.self.invariant.1 in
     let awaits = right.staged.backup (rw (← c.self.view_is) at c.requires.backup) in
-    rw (← c.self.view_is) (drain-covers c.args.costs.now c.self.inside.channel awaits.can right.channel.contents (rw (← c.self.view_is) at c.requires.reckoned))
+    rw (← c.self.view_is) (drain-covers c.args.costs.now c.self.inside.channel.value awaits.can right.channel.contents (rw (← c.self.view_is) at c.requires.reckoned))
 
 pub returns-clause-keeps : goal.returns-clause-keeps
 returns-clause-keeps g c =
     rw (← c.self.view_is)
-    (paid-keeps c.self.inside.channel c.drain.new.channel c.drain.ensures.drains (g.M.LineMap.place_of c.self.inside.map.now) c.self.invariant.1.channel.contents)
+    (paid-keeps c.self.inside.channel.value c.drain.new.channel (rw c.deref_mut.ensures.value at c.drain.ensures.drains) (g.M.LineMap.place_of c.self.inside.map.now) c.self.invariant.1.channel.contents)
