@@ -11,9 +11,9 @@ use Rattle.arm_state.specs.Modes.{has_ended}
 use Rattle.channel_locks.specs.declared.parts_name.PartsName.{Ghosts as PartsGhosts}
 use Rattle.channel_locks.specs.PortMakes.{PortMake}
 use Rattle.channel_log.specs.Log.{IsLogOf, LogNote, credits_of, log_tells}
-use Rattle.channel_part.proofs.Counting.{all_above}
-use Rattle.channel_part.specs.declared.part.Part.{Part}
-use Rattle.channel_part.specs.Stands.{queue_of}
+use Rattle.channel_locks.proofs.Counting.{all_above}
+use Rattle.channel_locks.specs.declared.part.Part.{Part}
+use Rattle.channel_locks.specs.Stands.{queue_of}
 use Rattle.channel_port.specs.declared.port.ChannelPort.{Ghosts}
 use Rattle.channel_port.specs.Shape.{IsShape}
 use Rattle.channel_port.specs.Waits.{AllBelow}

@@ -8,7 +8,7 @@ use Rattle.std.specs.Prelude.{Option, Some, None, slice_index_or}
 use Rattle.channel_locks.specs.Slots.{IsPartWhereDue}
 use Rattle.channel_locks.specs.declared.parts_name.PartsName.{Ghosts as PartsGhosts}
 use Rattle.channel_log.specs.Log.{LogNote, credits_of}
-use Rattle.channel_part.specs.declared.part.Part.{Part}
+use Rattle.channel_locks.specs.declared.part.Part.{Part}
 use Rattle.channel_port.specs.Waits.{Waits}
 use Rattle.channel_port.specs.declared.port.ChannelPort.{Ghosts}
 use Rattle.nv_machine.specs.State.{Machine}

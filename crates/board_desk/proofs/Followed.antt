@@ -5,7 +5,7 @@ use Rattle.arm_state.specs.declared.refusal.WriteRefusal.{WriteRefusal}
 use Rattle.channel_locks.specs.declared.parts_name.PartsName.{Ghosts as PartsGhosts}
 use Rattle.channel_log.specs.Log.{LogNote, note_of}
 use Rattle.channel_log.specs.declared.entry.LogEntry.TheVariants.{Looked, Wrote}
-use Rattle.channel_part.specs.declared.part.Part.{Part}
+use Rattle.channel_locks.specs.declared.part.Part.{Part}
 use Rattle.channel_port.specs.Shape.{IsShape}
 use Rattle.channel_port.specs.declared.answers.Got.{Got}
 use Rattle.channel_port.specs.declared.port.ChannelPort.{Ghosts}

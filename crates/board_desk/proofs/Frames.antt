@@ -14,7 +14,7 @@ use Rattle.channel_locks.specs.declared.locked_channel.LockedChannel.{LockedChan
 use Rattle.channel_locks.specs.declared.parts_name.PartsName.{Ghosts as PartsGhosts}
 use Rattle.channel_log.specs.Log.{IsLogOf, LogNote, log_tells}
 use Rattle.channel_log.specs.Seats.{AllLogs, AreOf, OneLog}
-use Rattle.channel_part.specs.declared.part.Part.{Part}
+use Rattle.channel_locks.specs.declared.part.Part.{Part}
 use Rattle.channel_port.specs.declared.port.ChannelPort.{Ghosts}
 use Rattle.energy_budget.specs.declared.energy.Energy.{Ghosts as GaugeGhosts}
 use Rattle.board_hosts.specs.SeenMarks.{SeenMarks}

@@ -6,7 +6,7 @@ use Rattle.arm_state.specs.Modes.{has_ended}
 use Rattle.channel_locks.specs.PortMakes.{PortMake, make_of}
 use Rattle.channel_locks.specs.declared.parts_name.PartsName.{Ghosts as PartsGhosts}
 use Rattle.channel_log.specs.Log.{log_tells}
-use Rattle.channel_part.specs.Stands.{PortStands}
+use Rattle.channel_locks.specs.Stands.{PortStands}
 use Rattle.channel_port.specs.Shape.{IsShape}
 use Rattle.channel_port.specs.Waits.{AllBelow, Has, Waits}
 use Rattle.channel_port.specs.declared.port.ChannelPort.{Ghosts}

@@ -11,8 +11,8 @@ use Rattle.channel_log.specs.Between.{CameOf}
 use Rattle.channel_log.specs.Log.{IsLog, IsLogOf, LogNote, MayFollow, credits_of, credits_out, log_tells, note_of}
 use Rattle.channel_log.specs.ReadLines.{ReadsHaveLines}
 use Rattle.channel_log.specs.declared.entry.LogEntry.{LogEntry}
-use Rattle.channel_part.specs.declared.part.Part.{Part}
-use Rattle.channel_part.specs.Stands.{PartStands, StandsNoted, queue_of, returned_of}
+use Rattle.channel_locks.specs.declared.part.Part.{Part}
+use Rattle.channel_locks.specs.Stands.{PartStands, StandsNoted, queue_of, returned_of}
 use Rattle.channel_port.specs.declared.port.ChannelPort.{Ghosts}
 use Rattle.channel_port.specs.Waits.{Waits}
 use Rattle.nv_machine.specs.State.{Machine}

@@ -11,7 +11,7 @@ use Rattle.channel_locks.specs.PortMakes.{make_of}
 use Rattle.channel_locks.specs.Slots.{IsPartWhereDue}
 use Rattle.channel_locks.specs.Unlocked.{port_in}
 use Rattle.channel_log.specs.Log.{IsLogOf, LogNote, log_tells}
-use Rattle.channel_part.specs.declared.part.Part.{Part}
+use Rattle.channel_locks.specs.declared.part.Part.{Part}
 use Rattle.channel_port.specs.declared.port.ChannelPort.{Ghosts}
 use Rattle.board_desk.specs.Answering.{SameElsewhere, SettlesPart}
 use Rattle.board_desk.specs.Loans.{HaveLent, IsLent, IsReadyToLend}

@@ -14,7 +14,7 @@ use Rattle.channel_locks.specs.declared.parts_name.PartsName.{Ghosts as PartsGho
 use Rattle.arm_state.specs.declared.loss.Loss.{Loss}
 use Rattle.channel_log.specs.Log.{LogNote, Told, credits_of, log_tells}
 use Rattle.channel_log.specs.ReadLines.{ReadsHaveLines}
-use Rattle.channel_part.specs.Stands.{PortStands}
+use Rattle.channel_locks.specs.Stands.{PortStands}
 use Rattle.channel_port.specs.Draining.{at_once}
 use Rattle.channel_port.specs.Shape.{Shape}
 use Rattle.channel_port.specs.Waits.{Has, OpenRead, Waits, nothing}

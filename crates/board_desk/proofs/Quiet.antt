@@ -6,8 +6,8 @@ use Rattle.std.proofs.lemmas.Option.{same_Some}
 use Rattle.arm_state.specs.declared.loss.Loss.{Loss}
 use Rattle.arm_state.specs.declared.refusal.WriteRefusal.{WriteRefusal}
 use Rattle.channel_log.specs.Log.{LogNote, log_tells}
-use Rattle.channel_part.specs.Stands.{PartStands}
-use Rattle.channel_part.specs.declared.part.Part.{Part}
+use Rattle.channel_locks.specs.Stands.{PartStands}
+use Rattle.channel_locks.specs.declared.part.Part.{Part}
 use Rattle.channel_port.specs.Answers.{IsGot}
 use Rattle.channel_port.specs.View.{with_write}
 use Rattle.channel_port.specs.Waits.{Waits}

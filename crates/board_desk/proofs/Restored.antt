@@ -13,8 +13,8 @@ use Rattle.channel_locks.specs.Slots.{IsPartWhereDue, IsSlotKept}
 use Rattle.channel_log.specs.Log.{LogNote, Told, credits_of, log_tells}
 use Rattle.channel_log.specs.ReadLines.{ReadsHaveLines}
 use Rattle.channel_log.specs.Seats.{OneLog}
-use Rattle.channel_part.specs.declared.part.Part.{Part}
-use Rattle.channel_part.specs.Stands.{PartStands, PortStands}
+use Rattle.channel_locks.specs.declared.part.Part.{Part}
+use Rattle.channel_locks.specs.Stands.{PartStands, PortStands}
 use Rattle.channel_port.specs.declared.port.ChannelPort.{Ghosts}
 use Rattle.channel_port.specs.declared.stage.Stage.TheVariants.{OnMains}
 use Rattle.board_desk.specs.Loans.{ComesBack, IsLent, restated}

@@ -12,8 +12,8 @@ use Rattle.channel_log.specs.Log.{IsLog, IsLogOf, LogNote, note_of, log_tells}
 use Rattle.channel_log.specs.ReadLines.{ReadsHaveLines}
 use Rattle.channel_log.specs.Seats.{AllLogs, IsNoted, OneLog}
 use Rattle.channel_log.specs.declared.entry.LogEntry.TheVariants.{Wrote}
-use Rattle.channel_part.specs.declared.part.Part.{Part}
-use Rattle.channel_part.specs.Stands.{StandsNoted}
+use Rattle.channel_locks.specs.declared.part.Part.{Part}
+use Rattle.channel_locks.specs.Stands.{StandsNoted}
 use Rattle.channel_port.specs.Shape.{IsShape}
 use Rattle.channel_port.specs.declared.port.ChannelPort.{Ghosts}
 use Rattle.channel_port.specs.View.{PortView, with_write}

@@ -3,8 +3,8 @@ use Rattle.std.specs.Prelude.{◌≡◌, ◌≢◌, ◌<◌, ◌≤◌, ℕ, Lis
 use Rattle.channel_log.specs.Log.{IsLogOf, LogNote, log_tells}
 use Rattle.channel_locks.specs.PortMakes.{PortMake}
 use Rattle.channel_locks.specs.declared.parts_name.PartsName.{Ghosts as PartsGhosts}
-use Rattle.channel_part.specs.declared.part.Part.{Part}
-use Rattle.channel_part.specs.Stands.{returned_of}
+use Rattle.channel_locks.specs.declared.part.Part.{Part}
+use Rattle.channel_locks.specs.Stands.{returned_of}
 use Rattle.channel_port.specs.Answers.{IsGot}
 use Rattle.channel_port.specs.View.{with_write}
 use Rattle.channel_port.specs.declared.answers.Got.{Got}

@@ -4,8 +4,8 @@ use Rattle.channel_locks.specs.PortMakes.{make_of}
 use Rattle.channel_locks.specs.declared.parts_name.PartsName.{Ghosts as PartsGhosts}
 use Rattle.channel_log.specs.Log.{LogNote, Told, credits_of, log_tells}
 use Rattle.channel_log.specs.ReadLines.{ReadsHaveLines}
-use Rattle.channel_part.specs.Stands.{PortStands, returned_of}
-use Rattle.channel_part.specs.declared.part.Part.{Part}
+use Rattle.channel_locks.specs.Stands.{PortStands, returned_of}
+use Rattle.channel_locks.specs.declared.part.Part.{Part}
 use Rattle.channel_port.specs.Waits.{Waits, nothing}
 use Rattle.channel_port.specs.declared.port.ChannelPort.{Ghosts}
 use Rattle.channel_port.specs.declared.stage.Stage.TheVariants.{OnMains}

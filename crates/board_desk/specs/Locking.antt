@@ -7,7 +7,7 @@ use Rattle.channel_locks.specs.declared.parts_name.PartsName.{Ghosts as PartsGho
 use Rattle.channel_locks.specs.Lent.{IsLentBy}
 use Rattle.channel_locks.specs.Unlocked.{issued_by, ports_in}
 use Rattle.channel_log.specs.Seats.{AllLogs}
-use Rattle.channel_part.specs.declared.part.Part.{Part}
+use Rattle.channel_locks.specs.declared.part.Part.{Part}
 use Rattle.channel_port.specs.declared.port.ChannelPort.{Ghosts}
 use Rattle.energy_budget.specs.declared.energy.Energy.{Ghosts as GaugeGhosts}
 use Rattle.line_memory.specs.History.{Recorded}

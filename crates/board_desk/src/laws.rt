@@ -1,7 +1,7 @@
 // What a desk keeps of its life.
 ghost use Rattle.std.specs.Prelude.{◌≡◌, List, Option};
 ghost use Rattle.std.specs.List.{sum_by};
-ghost use Rattle.channel_part.specs.declared.part.Part.{Part};
+ghost use Rattle.channel_locks.specs.declared.part.Part.{Part};
 ghost use Rattle.line_memory.specs.History.{TellsSameFrom};
 ghost use Rattle.nv_machine.specs.State.{Machine};
 ghost use Rattle.board_hosts.specs.Kept.{whole_record};

@@ -10,9 +10,8 @@ ghost use Rattle.board_desk.specs.Loans.{ComesBack, HaveLent, IsReadyToLend, res
 use crate::board_port::BoardPort;
 use crate::desk::Desk;
 use board_hosts::BoardName;
-use channel_locks::PartsName;
+use channel_locks::{Part, PartsName};
 use channel_log::{ChannelLogs, ChannelSeat, FrontSeat, Standing};
-use channel_part::Part;
 use channel_port::ChannelPort;
 use energy_budget::Energy;
 use save_device::SaveDevice;

@@ -4,11 +4,11 @@ ghost use Rattle.line_memory.specs.Parts.{AreBefore, numbered};
 ghost use Rattle.channel_log.specs.declared.entry.LogEntry.TheVariants.{Looked, Wrote};
 ghost use Rattle.channel_log.specs.Log.{log_tells, note_of};
 ghost use Rattle.channel_log.specs.Seats.{AreOf, IsNoted};
-ghost use Rattle.channel_part.specs.Stands.{queue_of};
+ghost use Rattle.channel_locks.specs.Stands.{queue_of};
 
 use arm_state::WriteRefusal;
+use channel_locks::Part;
 use channel_log::{ChannelLogs, ChannelSeat, FrontSeat, Standing};
-use channel_part::Part;
 use channel_port::ChannelPort;
 use line_memory::{Numbered, Write};
 use nv_machine::Accepted;

@@ -5,8 +5,8 @@ use Rattle.std.proofs.Math.Nat.{ℕ_set}
 use Rattle.channel_log.specs.Log.{LogNote}
 use Rattle.channel_port.specs.declared.port.ChannelPort.{Ghosts}
 use Rattle.channel_port.specs.Waits.{Waits}
-use Rattle.channel_part.specs.declared.part.Part.{Part}
-use Rattle.channel_part.specs.Stands.{StandsStill}
+use Rattle.channel_locks.specs.declared.part.Part.{Part}
+use Rattle.channel_locks.specs.Stands.{StandsStill}
 use Rattle.channel_locks.specs.declared.parts_name.PartsName.{Ghosts as NameGhosts}
 use Rattle.channel_locks.specs.Lent.{IsOfChannel}
 use Rattle.channel_locks.specs.PortMakes.{make_of}

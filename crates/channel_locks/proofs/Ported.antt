@@ -3,7 +3,7 @@ use Rattle.std.proofs.Common.{◌≡◌, ◌∙◌, List, [], ◌∷◌, ◌++�
 use Rattle.std.proofs.lemmas.List.{append-nil}
 use mathlib.Core.List.{append_assoc}
 use Rattle.channel_port.specs.declared.port.ChannelPort.{Ghosts}
-use Rattle.channel_part.specs.declared.part.Part.{Part}
+use Rattle.channel_locks.specs.declared.part.Part.{Part}
 use Rattle.channel_locks.specs.Unlocked.{port_in, ports_in}
 
 module _ {K : Type 0} (L : Ghosts K) where

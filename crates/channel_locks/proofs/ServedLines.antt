@@ -5,7 +5,7 @@ use Rattle.std.proofs.Props.{props}
 use Rattle.channel_log.specs.Log.{LogNote, log_tells}
 use Rattle.channel_log.specs.ReadLines.{IsLineBehind}
 use Rattle.channel_log.proofs.ReadLines.{Remains, came_remains, collected_remains, remains_has, remains_on, same_reads, served_remains}
-use Rattle.channel_part.specs.declared.part.Part.{Part}
+use Rattle.channel_locks.specs.declared.part.Part.{Part}
 use Rattle.channel_port.specs.Answers.{open_read}
 use Rattle.channel_port.specs.View.{PortView}
 use Rattle.channel_port.specs.Waits.{Has, OpenRead, Waits, nothing}

@@ -8,9 +8,9 @@ use Rattle.channel_port.specs.declared.answers.Ticket.{Ticket}
 use Rattle.channel_port.specs.declared.port.ChannelPort.{Ghosts}
 use Rattle.channel_port.specs.Answers.{IsCollected, IsServed}
 use Rattle.channel_port.specs.Issuing.{with_issued}
-use Rattle.channel_part.specs.declared.part.Part.{Part}
-use Rattle.channel_part.specs.Queue.{returned_by}
-use Rattle.channel_part.specs.Stands.{SameButPort, queue_of, returned_of}
+use Rattle.channel_locks.specs.declared.part.Part.{Part}
+use Rattle.channel_locks.specs.Queue.{returned_by}
+use Rattle.channel_locks.specs.Stands.{SameButPort, queue_of, returned_of}
 
 module _ {K : Type 0} (L : Ghosts K) where
   -- The part was worked once: it issued the command that came next and no other, or had none, or mains were lost. The credit of a write

@@ -8,7 +8,7 @@ use Rattle.channel_port.specs.declared.answers.Collected.{Collected}
 use Rattle.channel_port.specs.declared.answers.Collected.TheVariants.{Data}
 use Rattle.channel_port.specs.declared.answers.Ticket.{Ticket}
 use Rattle.channel_port.specs.declared.port.ChannelPort.{Ghosts}
-use Rattle.channel_part.specs.declared.part.Part.{Part}
+use Rattle.channel_locks.specs.declared.part.Part.{Part}
 use Rattle.worker_turns.specs.declared.Gate.{Ghosts as GateGhosts}
 use Rattle.channel_locks.specs.declared.parts_name.PartsName.{Ghosts as NameGhosts}
 use Rattle.channel_locks.specs.declared.turns.ChannelTurn.{ChannelTurn}

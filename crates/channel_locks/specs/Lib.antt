@@ -1,3 +1,5 @@
+pub mod Queue
+pub mod Stands
 pub mod Alone
 pub mod Lent
 pub mod Lines

@@ -4,8 +4,8 @@ use Rattle.channel_log.specs.Log.{LogNote, log_tells}
 use Rattle.channel_log.specs.ReadLines.{ReadsHaveLines}
 use Rattle.channel_log.specs.Seats.{OneLog}
 use Rattle.channel_port.specs.declared.port.ChannelPort.{Ghosts}
-use Rattle.channel_part.specs.declared.part.Part.{Part}
-use Rattle.channel_part.specs.Stands.{PartStands}
+use Rattle.channel_locks.specs.declared.part.Part.{Part}
+use Rattle.channel_locks.specs.Stands.{PartStands}
 use Rattle.channel_locks.specs.declared.parts_name.PartsName.{Ghosts as NameGhosts}
 use Rattle.channel_locks.specs.PortMakes.{make_of}
 

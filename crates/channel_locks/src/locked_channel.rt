@@ -2,9 +2,9 @@
 ghost use Rattle.std.specs.Prelude.{◌≡◌};
 ghost use Rattle.channel_locks.specs.Slots.{IsPartWhereDue, IsSlotKept};
 
+use crate::Part;
 use crate::parts_name::PartsName;
 use channel_log::{ChannelLogs, ChannelSeat, FrontSeat};
-use channel_part::Part;
 use channel_port::ChannelPort;
 use std::marker::PhantomData;
 

@@ -19,7 +19,7 @@ use Rattle.energy_budget.specs.declared.energy.Energy.{Ghosts as GaugeGhosts}
 use Rattle.arm_state.specs.Modes.{has_ended}
 use Rattle.channel_log.specs.Log.{LogNote, Told, credits_of, log_tells}
 use Rattle.channel_log.specs.ReadLines.{ReadsHaveLines}
-use Rattle.channel_part.specs.Stands.{PortStands}
+use Rattle.channel_locks.specs.Stands.{PortStands}
 use Rattle.channel_port.specs.declared.port.ChannelPort.{Ghosts}
 use Rattle.channel_port.specs.Shape.{Shape}
 use Rattle.channel_port.specs.Waits.{Has, Waits, nothing}

@@ -1,7 +1,7 @@
 -- What a channel's lock lent, and what a host's call left of it.
 use Rattle.std.proofs.Common.{Err, IfErr, IfOk, Ok, Option, Result}
 use Rattle.arm_state.specs.declared.refusal.WriteRefusal.{WriteRefusal}
-use Rattle.channel_part.specs.declared.part.Part.{Part}
+use Rattle.channel_locks.specs.declared.part.Part.{Part}
 use Rattle.channel_port.specs.declared.port.ChannelPort.{Ghosts}
 use Rattle.board_hosts.specs.declared.host.Receipt.{Receipt}
 use Rattle.board_desk.specs.Answering.{DoneWithLent, KeepsPort, PutsWrite}

@@ -7,7 +7,7 @@ use Rattle.channel_log.specs.ReadLines.{ReadsHaveLines}
 use Rattle.channel_log.specs.Seats.{AllLogs, OneLog, one_log}
 use Rattle.channel_port.specs.declared.port.ChannelPort.{Ghosts}
 use Rattle.channel_port.specs.declared.stage.Stage.TheVariants.{OnMains}
-use Rattle.channel_part.specs.Stands.{PortStands}
+use Rattle.channel_locks.specs.Stands.{PortStands}
 use Rattle.channel_locks.specs.PortMakes.{make_of}
 use Rattle.channel_locks.specs.declared.parts_name.PartsName.{Ghosts as PartsGhosts}
 use Rattle.board_desk.specs.Loans.{waits_of_port}

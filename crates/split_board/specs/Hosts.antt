@@ -9,7 +9,7 @@ use Rattle.channel_port.specs.declared.answers.Collected.TheVariants.{Data}
 use Rattle.channel_port.specs.declared.answers.Got.{Got}
 use Rattle.channel_port.specs.declared.answers.Got.TheVariants.{Now, Later}
 use Rattle.channel_port.specs.declared.answers.Ticket.{Ticket}
-use Rattle.channel_part.specs.declared.part.Part.{Part}
+use Rattle.channel_locks.specs.declared.part.Part.{Part}
 use Rattle.channel_port.specs.declared.port.ChannelPort.{Ghosts}
 use Rattle.channel_locks.specs.declared.parts_name.PartsName.{Ghosts as PartsGhosts}
 use Rattle.channel_locks.specs.Lent.{IsLentBy, LentRoom}

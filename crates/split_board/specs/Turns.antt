@@ -13,7 +13,7 @@ use Rattle.channel_locks.specs.declared.parts_name.PartsName.{Ghosts as PartsGho
 use Rattle.channel_locks.specs.declared.turns.ChannelTurn.{ChannelTurn}
 use Rattle.channel_locks.specs.Alone.{ServesAlone}
 use Rattle.channel_locks.specs.Lent.{LentServe, LentTurn}
-use Rattle.channel_part.specs.declared.part.Part.{Part}
+use Rattle.channel_locks.specs.declared.part.Part.{Part}
 use Rattle.worker_turns.specs.declared.Gate.{Ghosts as GateGhosts}
 use Rattle.worker_turns.specs.declared.Turn.{Turn}
 use Rattle.worker_turns.specs.declared.shift.Shift.{Ghosts as ShiftGhosts}

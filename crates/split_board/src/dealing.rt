@@ -7,9 +7,8 @@ ghost use Rattle.split_board.specs.FirstLogs.{AreFirstLogs, AreFirstPorts, AreFi
 ghost use Rattle.split_board.specs.FirstLogs.{channel_by};
 
 use crate::first_logs::{deal_seats, note_writes};
-use channel_locks::{LineChannels, LockedChannel, PartsName, UnlockedChannels};
+use channel_locks::{LineChannels, LockedChannel, Part, PartsName, UnlockedChannels};
 use channel_log::{ChannelLogs, ChannelSeat, FrontSeat};
-use channel_part::Part;
 use channel_port::ChannelPort;
 use channel_set::PortTerms;
 use line_memory::History;

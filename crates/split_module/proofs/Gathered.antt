@@ -30,7 +30,7 @@ use Rattle.channel_set.proofs.Lists.{all-at, all-of, at-within}
 use Rattle.channel_set.proofs.Piles.{any-found, any-has, from-pile}
 use Rattle.channel_set.proofs.Written.{written-before, written-is, written-once}
 use Rattle.channel_log.specs.Log.{LogNote, Told, log_tells}
-use Rattle.channel_part.specs.Stands.{PortStands}
+use Rattle.channel_locks.specs.Stands.{PortStands}
 use Rattle.module_core.specs.Fronts.{FrontMatches, setup_in}
 use Rattle.module_core.specs.Parts.{FitTogether}
 use Rattle.module_saves.specs.Saving.{IsOfLines}

@@ -2,7 +2,7 @@
 use Rattle.std.specs.Prelude.{◌≡◌, ◌≤◌, ℕ, List, [], length, slice_get, slice_index_or, false, Some}
 use Rattle.arm_state.specs.Modes.{has_ended}
 use Rattle.channel_log.specs.Log.{LogNote, Told, log_tells}
-use Rattle.channel_part.specs.Stands.{PortStands}
+use Rattle.channel_locks.specs.Stands.{PortStands}
 use Rattle.channel_port.specs.Shape.{IsShape, Shape}
 use Rattle.channel_port.specs.Waits.{AllBelow, nothing}
 use Rattle.channel_port.specs.declared.port.ChannelPort.{Ghosts}

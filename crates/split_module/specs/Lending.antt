@@ -7,8 +7,8 @@ use Rattle.arm_state.specs.declared.refusal.ReadRefusal.{ReadRefusal}
 use Rattle.arm_state.specs.declared.refusal.WriteRefusal.{WriteRefusal}
 use Rattle.channel_log.specs.declared.entry.LogEntry.TheVariants.{Wrote}
 use Rattle.channel_log.specs.Log.{IsLogOf, LogNote, log_tells, note_of}
-use Rattle.channel_part.specs.declared.part.Part.{Part}
-use Rattle.channel_part.specs.Stands.{PartStands}
+use Rattle.channel_locks.specs.declared.part.Part.{Part}
+use Rattle.channel_locks.specs.Stands.{PartStands}
 use Rattle.channel_port.specs.declared.answers.Got.{Got}
 use Rattle.channel_port.specs.declared.port.ChannelPort.{Ghosts}
 use Rattle.channel_port.specs.Shape.{Shape}

@@ -7,14 +7,14 @@ ghost use Rattle.channel_port.specs.Answers.{IsGot};
 ghost use Rattle.channel_port.specs.Waits.{AllBelow};
 ghost use Rattle.line_memory.specs.Memory.{after, line_of};
 ghost use Rattle.line_memory.specs.Parts.{numbered, writes_of};
-ghost use Rattle.channel_part.specs.Stands.{PartStands, SameButPort, StandsNoted, queue_of, returned_of};
+ghost use Rattle.channel_locks.specs.Stands.{PartStands, SameButPort, StandsNoted, queue_of, returned_of};
 ghost use Rattle.channel_port.specs.View.{with_write};
 ghost use Rattle.module_core.specs.Fronts.{AcceptsOne};
 ghost use Rattle.split_module.specs.Lending.{LooksAt, ReadsOn, WritesOn};
 
 use crate::SplitFront;
 use arm_state::{ReadRefusal, WriteRefusal};
-use channel_part::Part;
+use channel_locks::Part;
 use channel_port::{ChannelPort, Got};
 use line_memory::Write;
 use nv_machine::Accepted;

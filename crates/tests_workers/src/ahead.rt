@@ -10,9 +10,8 @@ ghost use Rattle.channel_set.specs.Set.{AreAt, view_of};
 
 use crate::check::{AMPLE, same, tiny};
 use crate::noted::{Ahead, Asked, NotedPort, Seen};
-use channel_locks::{ChannelTurn, LockedChannel, PartsName};
+use channel_locks::{ChannelTurn, LockedChannel, Part, PartsName};
 use channel_log::{ChannelLogs, ChannelSeat};
-use channel_part::Part;
 use channel_port::ChannelPort;
 use channel_set::{ChannelSet, SetApart};
 use ddr4_port::{Ddr4Port, channels_with_memory};

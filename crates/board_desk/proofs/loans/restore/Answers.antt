@@ -1,7 +1,7 @@
 -- A port comes back.
 use Rattle.std.proofs.Common.{None, Option, Some, [], ap, arith, rules, subst, sym, take, ◌++◌, ◌∙◌, ◌∷◌, ◌≤◌, ◌<◌}
 use Rattle.channel_locks.specs.Unlocked.{port_in}
-use Rattle.channel_part.specs.declared.part.Part.{Part}
+use Rattle.channel_locks.specs.declared.part.Part.{Part}
 use Rattle.std.proofs.lemmas.Option.{slice_get_within}
 use Rattle.channel_locks.specs.Slots.{IsSlotKept}
 use Rattle.channel_log.specs.Log.{log_tells}

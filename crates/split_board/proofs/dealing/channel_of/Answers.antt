@@ -1,7 +1,7 @@
 use Rattle.std.proofs.Common.{◌≡◌, ◌∙◌, [], ◌∷◌, ◌++◌, length, slice_get, Option, Some, ap, arith, sym}
 use Rattle.channel_log.specs.Log.{log_tells}
 use Rattle.std.proofs.lemmas.List.{append-nil}
-use Rattle.channel_part.specs.declared.part.Part.{Part}
+use Rattle.channel_locks.specs.declared.part.Part.{Part}
 use Rattle.channel_locks.specs.Unlocked.{port_in}
 use Rattle.split_board.specs.FirstLogs.{IsFirstPort}
 use Rattle.split_board.proofs.Slots.{first_part, port_gone, port_last, seat_gone, seat_last}

@@ -1,6 +1,6 @@
 -- A write to a line of a channel that was looked at.
 use Rattle.std.proofs.Common.{arith, length, refl, subst, sym, ◌<◌, ◌≡◌}
-use Rattle.channel_part.specs.Stands.{queue_of}
+use Rattle.channel_locks.specs.Stands.{queue_of}
 use Rattle.channel_port.specs.Waits.{AllBelow}
 use Rattle.split_module.proofs.Lent.{tells_write, wrote}
 use Rattle.split_module.proofs.SameSplit.{same_split}

@@ -2,7 +2,7 @@
 use Rattle.std.proofs.Common.{[], None, Option, Some, ap, arith, refl, rules, subst, sym, ◌+◌, ◌++◌, ◌≡◌, ◌∙◌, ◌∷◌}
 use Rattle.std.proofs.Math.Logic.{∥∥₁_elim, ∥∥₁_map, ∥∥₁_prop}
 use Rattle.std.proofs.lemmas.List.{append-nil}
-use Rattle.channel_part.specs.declared.part.Part.{Part}
+use Rattle.channel_locks.specs.declared.part.Part.{Part}
 use Rattle.channel_locks.specs.Slots.{IsPartWhereDue}
 use Rattle.channel_locks.specs.Unlocked.{port_in}
 use Rattle.channel_log.specs.Log.{IsLogOf}

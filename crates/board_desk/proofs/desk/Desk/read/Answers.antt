@@ -10,7 +10,7 @@ use Rattle.channel_log.specs.Log.{IsLogOf, LogNote, log_tells, note_of}
 use Rattle.channel_log.specs.ReadLines.{ReadsHaveLines}
 use Rattle.channel_log.specs.Seats.{AllLogs, OneLog}
 use Rattle.channel_log.specs.declared.entry.LogEntry.TheVariants.{Looked}
-use Rattle.channel_part.specs.Stands.{PartStands}
+use Rattle.channel_locks.specs.Stands.{PartStands}
 use Rattle.channel_port.specs.View.{PortView}
 use Rattle.board_hosts.specs.SeenMarks.{seen_marks}
 use Rattle.nv_machine.specs.State.{Machine, base_of_life}

@@ -6,7 +6,7 @@ use Rattle.board_desk.specs.Views.{desk_of}
 use Rattle.board_desk.specs.declared.desk.Desk.{Desk}
 use Rattle.channel_locks.specs.Lent.{IsLentBy}
 use Rattle.channel_locks.specs.declared.parts_name.PartsName.{Ghosts as PartsGhosts}
-use Rattle.channel_part.specs.declared.part.Part.{Part}
+use Rattle.channel_locks.specs.declared.part.Part.{Part}
 use Rattle.channel_port.specs.declared.port.ChannelPort.{Ghosts}
 use Rattle.energy_budget.specs.declared.energy.Energy.{Ghosts as GaugeGhosts}
 use Rattle.nv_machine.specs.declared.events.Event.TheVariants as events

@@ -1,3 +1,0 @@
-pub mod Queueing
-pub mod Standing
-pub mod Counting
