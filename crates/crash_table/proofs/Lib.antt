@@ -10,4 +10,3 @@ pub mod Ending
 pub mod Standings
 pub mod Behind
 pub mod Lefts
-mod Faults

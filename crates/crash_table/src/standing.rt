@@ -3,8 +3,8 @@ ghost use Rattle.std.specs.Prelude.{◌≡◌, ◌++◌, ◌∷◌, [], IfErr, I
 ghost use Rattle.interleave_map.specs.declared.ready.Interleaving.{Interleaving};
 ghost use Rattle.nv_profile.specs.declared.profile.Profile.{Profile};
 ghost use Rattle.nv_script.specs.Line.{NamesChannelOf};
+ghost use Rattle.nv_script.specs.declared.reading.ScriptFault.TheVariants.{Memory};
 ghost use Rattle.nv_session.specs.Living.{IsShapeFor};
-ghost use Rattle.script_runner.specs.Story.{GivesOut};
 
 use crate::answers::{Answers, ends_behind, told_after};
 use crate::stop::Stop;
@@ -68,10 +68,13 @@ impl<K: ChannelPort + CopyValue + Drop, A: Wires<K> + CopyValue + Drop> Standing
     pub(crate) fn go_on(&mut self, alloc: Global, line: ScriptLine) -> Result<(), ScriptFault>
         requires { NamesChannelOf self.old.session.profile.checked.geometry line }
         ensures goes { OnOk result (GoesOnBy (line ∷ []) self.old self.new) }
-        ensures fault { IfErr result GivesOut }
+        ensures fault { IfErr result (λ fault. fault ≡ Memory) }
     {
         let mut answers = Answers::new(alloc);
-        answer_line(alloc, &mut self.session, line, &mut answers)?;
+        // answers that are kept give out only where memory does
+        let Ok(()) = answer_line(alloc, &mut self.session, line, &mut answers) else {
+            return Err(ScriptFault::Memory);
+        };
         self.done.note(&line);
         self.told = told_after(self.told, &answers.taken);
         self.fails = ends_behind(self.fails, &answers.taken);
@@ -87,7 +90,7 @@ impl<K: ChannelPort + CopyValue + Drop, A: Wires<K> + CopyValue + Drop> Standing
     ) -> Result<(), ScriptFault>
         requires { NamesChannelOf self.old.session.profile.checked.geometry line }
         ensures goes { OnOk result (GoesOnBy (stopped line stop) self.old self.new) }
-        ensures fault { IfErr result GivesOut }
+        ensures fault { IfErr result (λ fault. fault ≡ Memory) }
     {
         match stop {
             Stop::Dark { calls } => {

@@ -3,8 +3,9 @@ ghost use Rattle.std.specs.Prelude.{◌≡◌, [], length, All, IfOk, IfErr, IfS
 ghost use Rattle.ddr4_timing.specs.Limits.{lines_of};
 ghost use Rattle.slot_store.specs.Slots.{device_size};
 ghost use Rattle.nv_script.specs.Line.{NamesChannelOf};
-ghost use Rattle.script_runner.specs.Ended.{nothing};
-ghost use Rattle.script_runner.specs.Story.{AreAllAnswered, GivesOut};
+ghost use Rattle.nv_script.specs.declared.reading.ScriptFault.TheVariants.{Memory};
+ghost use Rattle.script_runner.specs.Ended.{IsKeptOf, nothing};
+ghost use Rattle.script_runner.specs.Story.{AreAllAnswered};
 ghost use Rattle.crash_table.specs.Counting.{complete_ones, most_missing};
 ghost use Rattle.crash_table.specs.Outcomes.{AreTried, IsFoundOf, IsOutcomeOf, IsRestoreOf};
 ghost use Rattle.crash_table.specs.Tables.{TellsEach};
@@ -61,12 +62,12 @@ impl<'p> Trials<'p> {
         requires { All (NamesChannelOf self.now.profile.now.checked.geometry) lines.now }
         ensures answered { IfOk result (λ answers. AreAllAnswered
             (lines_of self.now.profile.now.checked.geometry) lines.now [] answers.items) }
-        ensures fault { IfErr result GivesOut }
+        ensures fault { IfErr result (λ fault. fault ≡ Memory) }
     {
         self.answers_kept(lines, &mut CommandBook::closed(self.alloc))
     }
 
-    /// The same, with the commands of the lines' lives for a new book.
+    /// The same, with the commands of the lines' lives for a new book: of as many lives as the answers tell to begin.
     pub fn answers_kept(
         &self,
         lines: &[ScriptLine],
@@ -76,12 +77,14 @@ impl<'p> Trials<'p> {
         requires book { IfSome book.old (λ kept. kept ≡ nothing) }
         ensures answered { IfOk result (λ answers. AreAllAnswered
             (lines_of self.now.profile.now.checked.geometry) lines.now [] answers.items) }
-        ensures fault { IfErr result GivesOut }
+        ensures kept { IfOk result (λ answers. IfSome book.new
+            (IsKeptOf lines.now [] answers.items)) }
+        ensures fault { IfErr result (λ fault. fault ≡ Memory) }
     {
         let lines_map = self.map(Interleaving::Lines);
         let xor_map = self.map(Interleaving::Xor);
         let mut answers = Answers::new(self.alloc);
-        do_lines_kept(
+        let ran = do_lines_kept(
             self.alloc,
             self.profile,
             lines,
@@ -89,8 +92,12 @@ impl<'p> Trials<'p> {
             &xor_map,
             &mut answers,
             book,
-        )?;
-        Ok(answers.taken)
+        );
+        match ran {
+            Ok(_) => Ok(answers.taken),
+            // answers that are kept give out only where memory does
+            Err(_) => Err(ScriptFault::Memory),
+        }
     }
 
     // What a restore answers on a device that a stop left with these bytes.
@@ -99,7 +106,7 @@ impl<'p> Trials<'p> {
             ≡ device_size (lines_of self.now.profile.now.checked.geometry) }
         ensures restores { IfOk result (IsRestoreOf
             (lines_of self.now.profile.now.checked.geometry) bytes.items) }
-        ensures fault { IfErr result GivesOut }
+        ensures fault { IfErr result (λ fault. fault ≡ Memory) }
     {
         let lines_map = self.map(Interleaving::Lines);
         let xor_map = self.map(Interleaving::Xor);
@@ -115,7 +122,7 @@ impl<'p> Trials<'p> {
             ≡ device_size (lines_of self.now.profile.now.checked.geometry) }
         ensures found { IfOk result (IsFoundOf
             (lines_of self.now.profile.now.checked.geometry) bytes.items told) }
-        ensures fault { IfErr result GivesOut }
+        ensures fault { IfErr result (λ fault. fault ≡ Memory) }
     {
         let answer = self.restore(bytes)?;
         Ok(Outcome {
@@ -129,7 +136,7 @@ impl<'p> Trials<'p> {
         requires { All (NamesChannelOf self.now.profile.now.checked.geometry) lines.now }
         ensures found { IfOk result (IsOutcomeOf
             (lines_of self.now.profile.now.checked.geometry) lines.now pick) }
-        ensures fault { IfErr result GivesOut }
+        ensures fault { IfErr result (λ fault. fault ≡ Memory) }
     {
         let mut whole = lines.to_vec(self.alloc)?;
         whole.extend_from_slice(&[ScriptLine::Restore {
@@ -155,7 +162,7 @@ impl<'p> Trials<'p> {
         ensures tried { IfOk result (λ tried. AreTried
             (lines_of self.now.profile.now.checked.geometry) before.now line tried.items) }
         ensures complete { IfOk result (λ tried. most_missing (complete_ones tried.items) ≡ 0) }
-        ensures fault { IfErr result GivesOut }
+        ensures fault { IfErr result (λ fault. fault ≡ Memory) }
     {
         let lines_map = self.map(Interleaving::Lines);
         let xor_map = self.map(Interleaving::Xor);
@@ -176,7 +183,7 @@ impl<'p> Trials<'p> {
         ensures tells { IfOk result (TellsEach
             (lines_of self.now.profile.now.checked.geometry) script.now) }
         ensures complete { IfOk result (λ table. table.counts.complete ≡ 0) }
-        ensures fault { IfErr result GivesOut }
+        ensures fault { IfErr result (λ fault. fault ≡ Memory) }
     {
         let lines_map = self.map(Interleaving::Lines);
         let xor_map = self.map(Interleaving::Xor);

@@ -4,8 +4,8 @@ ghost use Rattle.ddr4_timing.specs.Limits.{lines_of};
 ghost use Rattle.interleave_map.specs.declared.ready.Interleaving.{Interleaving};
 ghost use Rattle.save_device.specs.declared.memory.Pick.{Pick};
 ghost use Rattle.nv_script.specs.Line.{NamesChannelOf};
+ghost use Rattle.nv_script.specs.declared.reading.ScriptFault.TheVariants.{Memory};
 ghost use Rattle.nv_session.specs.Living.{IsShapeFor};
-ghost use Rattle.script_runner.specs.Story.{GivesOut};
 ghost use Rattle.crash_table.specs.Behinds.{IsBehind};
 ghost use Rattle.crash_table.specs.Outcomes.{AreTried, AreTriedDark, IsOutcomeOf, IsTried, MayEnd, tried_at};
 ghost use Rattle.crash_table.specs.Standings.{Stands};
@@ -52,7 +52,7 @@ impl<'p> Trials<'p> {
         ensures found { IfOk result (λ outcome. IfSome outcome (λ outcome. (pick : Pick)
             → IsOutcomeOf (lines_of self.now.profile.now.checked.geometry)
             behind.now.standing.done.items pick outcome)) }
-        ensures fault { IfErr result GivesOut }
+        ensures fault { IfErr result (λ fault. fault ≡ Memory) }
     {
         let Some(left) = &behind.left else {
             return Ok(None);
@@ -73,7 +73,7 @@ impl<'p> Trials<'p> {
         ensures found { IfOk result (IsOutcomeOf
             (lines_of self.now.profile.now.checked.geometry)
             behind.now.standing.done.items pick) }
-        ensures fault { IfErr result GivesOut }
+        ensures fault { IfErr result (λ fault. fault ≡ Memory) }
     {
         let Some(left) = &behind.left else {
             return self.outcome_at(&behind.standing, pick);
@@ -101,7 +101,7 @@ impl<'p> Trials<'p> {
         ensures found { IfOk result (IsOutcomeOf
             (lines_of self.now.profile.now.checked.geometry)
             behind.now.standing.done.items pick) }
-        ensures fault { IfErr result GivesOut }
+        ensures fault { IfErr result (λ fault. fault ≡ Memory) }
     {
         match all {
             Some(outcome) => Ok(outcome),
@@ -121,7 +121,7 @@ impl<'p> Trials<'p> {
         requires { Stands self.now.profile.now standing.now }
         ensures found { IfOk result (IsOutcomeOf
             (lines_of self.now.profile.now.checked.geometry) standing.now.done.items pick) }
-        ensures fault { IfErr result GivesOut }
+        ensures fault { IfErr result (λ fault. fault ≡ Memory) }
     {
         let mut restored = standing.copy(self.alloc)?;
         let mut answers = Answers::new(self.alloc);
@@ -129,7 +129,10 @@ impl<'p> Trials<'p> {
             pick: Some(pick),
             map: None,
         };
-        answer_line(self.alloc, &mut restored.session, restore, &mut answers)?;
+        // answers that are kept give out only where memory does
+        let Ok(()) = answer_line(self.alloc, &mut restored.session, restore, &mut answers) else {
+            return Err(ScriptFault::Memory);
+        };
         match answers.taken.first() {
             Some(given) => Ok(Outcome {
                 found: Found::by(given),
@@ -154,7 +157,7 @@ impl<'p> Trials<'p> {
         ensures behind { IfOk result (IsBehind self.now.profile.now) }
         ensures lines { IfOk result (λ behind. behind.standing.done.items
             ≡ stopped_lines standing.now.done.items line stop) }
-        ensures fault { IfErr result GivesOut }
+        ensures fault { IfErr result (λ fault. fault ≡ Memory) }
     {
         let mut standing = standing.copy(self.alloc)?;
         standing.stop(self.alloc, line, stop)?;
@@ -183,7 +186,7 @@ impl<'p> Trials<'p> {
         ensures ends { IfOk result (λ stopped. MayEnd
             (lines_of self.now.profile.now.checked.geometry)
             (stopped_lines standing.now.done.items line stop) stopped.fails) }
-        ensures fault { IfErr result GivesOut }
+        ensures fault { IfErr result (λ fault. fault ≡ Memory) }
     {
         let behind = self.behind(standing, line, stop)?;
         let all = self.outcome_of_all(&behind)?;
@@ -216,7 +219,7 @@ impl<'p> Trials<'p> {
         ensures dark { IfOk result (λ tried. AreTriedDark
             (lines_of self.now.profile.now.checked.geometry) standing.now.done.items
             line tried.items) }
-        ensures fault { IfErr result GivesOut }
+        ensures fault { IfErr result (λ fault. fault ≡ Memory) }
     {
         let mut tried = Vec::new(self.alloc);
         for calls in 0..u64::MAX {
@@ -244,7 +247,7 @@ impl<'p> Trials<'p> {
         ensures tried { IfOk result (λ tried. AreTried
             (lines_of self.now.profile.now.checked.geometry) standing.now.done.items
             line tried.items) }
-        ensures fault { IfErr result GivesOut }
+        ensures fault { IfErr result (λ fault. fault ≡ Memory) }
     {
         let mut tried = self.tried_dark(standing, line)?;
         let lost = self.try_stop(standing, line, Stop::Loss)?;
@@ -270,7 +273,7 @@ impl<'p> Trials<'p> {
         ensures tells { IfOk result (TellsEach
             (lines_of self.now.profile.now.checked.geometry) script.now) }
         ensures complete { IfOk result (λ table. table.counts.complete ≡ 0) }
-        ensures fault { IfErr result GivesOut }
+        ensures fault { IfErr result (λ fault. fault ≡ Memory) }
     {
         let mut table = Table::new(self.alloc);
         for place in 0..script.lines.len() {
@@ -298,7 +301,7 @@ impl<'p> Trials<'p> {
         requires checked { A.checked wires ≡ self.now.profile.now.checked }
         ensures stands { IfOk result (Stands self.now.profile.now) }
         ensures done { IfOk result (λ standing. standing.done.items ≡ lines.now) }
-        ensures fault { IfErr result GivesOut }
+        ensures fault { IfErr result (λ fault. fault ≡ Memory) }
     {
         let mut standing = Standing::new(self.alloc, self.profile, wires)?;
         for line in lines {

@@ -13,7 +13,7 @@ returns-clause-goes g c =
       profile = c.answer_line.ensures.profile;
       done = c.note.ensures;
       stands = λ of stands.
-          stands_more of old _ c.args.line c.new-answers.result.taken.items given c.new-answers.ensures c.in_ok-answer_line.ensures.done c.answer_line.ensures.profile c.note.ensures
+          stands_more of old _ c.args.line c.new-answers.result.taken.items given c.new-answers.ensures c.in-Ok.ensures.done c.answer_line.ensures.profile c.note.ensures
           (c.told_after-self.ensures ∙ ap (λ (some : List Answer). told_all old.told some) c.deref.ensures.value)
           (λ all ends. subst (λ (some : List Answer). EndsWithFault (all ++ some) c.ends_behind-self.result) c.deref-2.ensures.value (c.ends_behind-self.ensures all ends)) stands;
     }

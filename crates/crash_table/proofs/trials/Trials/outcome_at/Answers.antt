@@ -7,7 +7,6 @@ use Rattle.nv_script.specs.declared.line.ScriptLine.{ScriptLine}
 use Rattle.crash_table.specs.Outcomes.{IsOutcomeOf}
 use Rattle.crash_table.specs.declared.outcome.Outcome.{Outcome}
 use Rattle.crash_table.proofs.Behind.{restored_here}
-use Rattle.crash_table.proofs.Faults.{if_err_gives_out}
 use Rattle.crash_table.proofs.trials.Trials.outcome_at.Goals as goal
 
 pub returns-in-Some-clause-found : goal.returns-in-Some-clause-found
@@ -19,10 +18,5 @@ returns-in-Some-clause-found g c =
     subst (λ (some : List Answer). slice_get some 0 ≡ Some c.in-Some.given.now) c.deref.ensures.value (sym c.in-Some.ensures.value) in
     let outcome : Outcome = record { found = c.by.result; told = c.unwrap_or.result } in
     subst (λ (lines : List ScriptLine). IsOutcomeOf (lines_of profile.checked.geometry) lines c.args.pick outcome) c.in_ok-restored.ensures.done
-    (restored_here profile copy stands c.args.pick c.new-answers.result.taken.items c.answer_line.new.report.taken.items c.answer_line.new.session c.new-answers.ensures c.in_ok-answer_line.ensures.done
+    (restored_here profile copy stands c.args.pick c.new-answers.result.taken.items c.answer_line.new.report.taken.items c.answer_line.new.session c.new-answers.ensures c.in-Ok.ensures.done
     c.in-Some.given.now at outcome c.by.ensures c.unwrap_or.ensures)
-
-pub returns-in_err-answer_line-clause-fault : goal.returns-in_err-answer_line-clause-fault
-returns-in_err-answer_line-clause-fault g c =
-    if_err_gives_out c.from_residual-in_err-answer_line.result c.in_err-answer_line.field-0.0 c.new-answers.result.refused.items c.answer_line.new.report.refused.items c.from_residual-in_err-answer_line.ensures.1
-    c.in_err-answer_line.ensures.fault
