@@ -10,3 +10,4 @@ pub mod TermWords
 pub mod Told
 pub mod Unread
 pub mod VerbWords
+pub mod Verdicts

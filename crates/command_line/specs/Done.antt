@@ -22,6 +22,6 @@ pub record IsDone (gives : List ℕ → List ℕ → Type 0) (verb : List ℕ) (
       (λ profile script. TellsBadLines profile.checked.geometry script code old new)
   pub crash : verb ≡ codes "crash" → OfScriptNamed gives (profile_word matches) (script_word matches)
       (λ profile script. IsCrashTold profile script old new)
-  pub check : verb ≡ codes "check" → HasVerdictBy gives matches code
+  pub check : verb ≡ codes "check" → HasVerdictBy gives matches code old new
   pub draw : verb ≡ codes "draw" → (exit_status code ≡ 0) × HasSchedule gives matches
   pub profile : verb ≡ codes "profile" → ExplainsProfile gives (profile_word matches) old new

@@ -1,11 +1,12 @@
 // A trace, checked.
-ghost use Rattle.std.specs.Prelude.{◌≡◌, ◌↔◌, [], Err, false, IfErr, IfOk};
+ghost use Rattle.std.specs.Prelude.{◌≡◌, ◌↔◌, ℕ, List, [], Err, false, true, IfErr, IfOk, OnOk};
+ghost use Rattle.std.specs.Io.KnownBytes.{Appends};
 ghost use Rattle.std.specs.Process.{exit_status};
 ghost use Rattle.command_trace.specs.Channels.{AreLawful, FollowsAll};
 ghost use Rattle.command_trace.specs.Sources.{bytes_of};
-ghost use Rattle.command_trace.specs.Traces.{AreCommandsOf};
 ghost use Rattle.command_faults.specs.declared.fault.ProgramFault.TheVariants.{EmptyTrace};
-ghost use Rattle.command_line.specs.Check.{HasVerdict, HasVerdictBy, IsOfTrace, IsReadAs, IsSourceNamed};
+ghost use Rattle.command_line.specs.Check.{HasVerdict, HasVerdictBy, IsJudged, IsOfTrace, IsReadAs, IsSourceNamed, TellsChannels, TellsCounts};
+ghost use Rattle.trace_statistics.specs.Telling.{IsMeasured};
 
 use crate::command::{status_by, word_or};
 use crate::forms::form_asked;
@@ -18,7 +19,7 @@ use std::alloc::Global;
 use std::io::Write;
 use std::process::ExitCode;
 use std::rt::Files;
-use trace_statistics::{measure, write_statistics};
+use trace_statistics::{Measured, measure};
 
 /// Checks the trace that the words name. The exit status is 1 where the commands of a channel aren't lawful, and where there is
 /// none and the words don't allow that.
@@ -30,7 +31,8 @@ pub(crate) fn check<'a, R, W>(
 where
     R: Files + FileHost + AllocGlobal,
     W: Write,
-    ensures { IfOk result (HasVerdictBy (R.gives rt.now) matches.now) }
+    ensures { IfOk result (λ code. HasVerdictBy (R.gives rt.now) matches.now code
+        (W.contents writer.old) (W.contents writer.new)) }
 {
     let rules = rules_of(rt, word_or(matches, "PROFILE", "tiny"))?;
     let form = form_asked(rt.alloc(), matches)?;
@@ -101,8 +103,8 @@ fn write_check<R: Files + AllocGlobal, W: Write>(
     rules: &CommandRules,
     writer: &mut W,
 ) -> Result<Result<ExitCode, Failure<'static>>, TraceFault>
-    ensures { IfOk result (λ checked. IfOk checked
-        (HasVerdict rules.now source.now asked.form asked.others)) }
+    ensures { IfOk result (λ checked. IfOk checked (λ code. HasVerdict rules.now source.now
+        asked code (W.contents writer.old) (W.contents writer.new))) }
 {
     let form = form_read(rt, source, asked)?;
     if !asked.stats {
@@ -110,15 +112,32 @@ fn write_check<R: Files + AllocGlobal, W: Write>(
         return write_checked(rt, source, form, asked, rules, &check, writer);
     }
     let measured = measure(rt, source, form, rules)?;
-    let checked = write_checked(rt, source, form, asked, rules, &measured.check, writer)?;
-    if checked.is_ok() {
-        if asked.is_json {
-            statistics_report::write_statistics(rt.alloc(), rules, &measured, writer)?;
-        } else {
-            write_statistics(rules, &measured, writer)?;
+    match write_checked(rt, source, form, asked, rules, &measured.check, writer)? {
+        Ok(code) => {
+            write_counts(rt.alloc(), rules, &measured, asked.is_json, writer)?;
+            Ok(Ok(code))
         }
+        Err(failure) => Ok(Err(failure)),
     }
-    Ok(checked)
+}
+
+// Writes what the commands of a trace come to, as objects or as lines.
+fn write_counts<W: Write>(
+    alloc: Global,
+    rules: &CommandRules,
+    measured: &Measured,
+    is_json: bool,
+    writer: &mut W,
+) -> Result<(), TraceFault>
+    ensures { IsMeasured rules.now measured.now → OnOk result ((text : List ℕ)
+        × TellsCounts true is_json rules.now measured.now.check.given.items text
+        × Appends (W.contents writer.old) (W.contents writer.new) text) }
+{
+    if is_json {
+        statistics_report::write_statistics(alloc, rules, measured, writer)
+    } else {
+        trace_statistics::write_statistics(rules, measured, writer)
+    }
 }
 
 // Writes what the check of a trace tells.
@@ -131,18 +150,14 @@ fn write_checked<R: Files + AllocGlobal, W: Write>(
     check: &TraceCheck,
     writer: &mut W,
 ) -> Result<Result<ExitCode, Failure<'static>>, TraceFault>
-    ensures { FollowsAll rules.now check.now → IsReadAs asked.form asked.others form
-        → AreCommandsOf form (bytes_of source.now) check.now.given.items
-        → IfOk result (λ checked. IfOk checked
-        (HasVerdict rules.now source.now asked.form asked.others)) }
+    ensures { FollowsAll rules.now check.now → IfOk result (λ checked. IfOk checked
+        (λ code. (text : List ℕ)
+        × IsJudged rules.now form (bytes_of source.now) check.now asked code text
+        × Appends (W.contents writer.old) (W.contents writer.new) text)) }
 {
     match verdict(check, rules, asked.allows_empty) {
         Ok(code) => {
-            if asked.all {
-                write_tallies(rt, source, form, rules, check, asked.is_json, writer)?;
-            } else {
-                write_verdicts(rt, source, form, rules, check, asked.is_json, writer)?;
-            }
+            write_channels(rt, source, form, asked, rules, check, writer)?;
             Ok(Ok(code))
         }
         Err(fault) => Ok(Err(Failure {
@@ -151,6 +166,27 @@ fn write_checked<R: Files + AllocGlobal, W: Write>(
                 "no command stands in it; --allow-empty takes that for lawful",
             )),
         })),
+    }
+}
+
+// Writes what is told of each channel.
+fn write_channels<R: Files + AllocGlobal, W: Write>(
+    rt: &R,
+    source: &Source<'_>,
+    form: Form,
+    asked: Asked,
+    rules: &CommandRules,
+    check: &TraceCheck,
+    writer: &mut W,
+) -> Result<(), TraceFault>
+    ensures { FollowsAll rules.now check.now → OnOk result ((text : List ℕ)
+        × TellsChannels asked.all rules.now form (bytes_of source.now) check.now asked.is_json text
+        × Appends (W.contents writer.old) (W.contents writer.new) text) }
+{
+    if asked.all {
+        write_tallies(rt, source, form, rules, check, asked.is_json, writer)
+    } else {
+        write_verdicts(rt, source, form, rules, check, asked.is_json, writer)
     }
 }
 

@@ -105,7 +105,7 @@ returns-in-check g c =
     let matches = c.args.matches.now in
     let old = g.W.Write.contents c.args.writer.now in
     let new = g.W.Write.contents c.check.new.writer in
-    IfOk-weaker c.check.result (HasVerdictBy gives matches)
+    IfOk-weaker c.check.result (λ code. HasVerdictBy gives matches code old new)
     (λ code. IsDone gives verb matches code old new)
     (λ code told. record {
       run = λ e. absurd (c.in-check.not-run e);
